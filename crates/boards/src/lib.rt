@@ -1,0 +1,6 @@
+// Boards: the substrate as a graph of numbered cells, some of them pads, some landings.
+//
+// `Board` is what the router sees, `PlacedBoard` adds where each cell lies. `Field` and `Escape` are made from maps,
+// and a `KeepOut` closes cells of any board.
+pub mod board;
+pub mod place;
