@@ -1,0 +1,5 @@
+pub mod Members
+pub mod Cells
+pub mod Outlets
+pub mod Said
+pub mod Follow

@@ -1,0 +1,97 @@
+// Whether a drawing is lawful.
+//
+// The rules about a cell and the cells that it names are looked at cell by cell. Then the net cells are counted, and once
+// more by following every net from its first cell: the counts are equal exactly if every net cell is reached.
+ghost use mathlib.Core.Path.{_≡_};
+ghost use mathlib.Core.Bool.{true, false};
+ghost use Prim.Native.Nat.{ℕ, _<_, _≤_};
+ghost use lib.ListN.{length};
+ghost use Rattle.std.specs.Orderings.{Decides};
+ghost use Rattle.std.specs.shelf.Lists.{countBy};
+ghost use Rattle.std.specs.declared.option.Option.the-variants.{Some};
+ghost use Rattle.boards.specs.Meaning.{outlets-of, pad-at, landing-at};
+ghost use Rattle.linkages.specs.Lists.{Mem};
+ghost use Rattle.drawings.specs.Records.{is-net, is-barred, record-at};
+ghost use Rattle.drawings.specs.Nets.{before-at, after-at, net};
+ghost use Rattle.drawings.specs.Lawful.{Local, Begins, Goes-on, Lawful};
+use boards::board::Board;
+
+use crate::records::Record;
+use crate::records::record_at;
+
+// Whether a cell is an outlet of another.
+fn leads<B: Board>(board: &B, from: u16, to: u16) -> bool
+    ensures { λ r. ⌜ Decides r (Mem to (outlets-of (meaning (now (board .entry))) from)) ⌝ }
+{
+    for j in 0..8u8 {
+        if let Some(outlet) = board.outlet(from, j) {
+            if outlet == to {
+                return true;
+            }
+        }
+    }
+    false
+}
+
+// Whether a cell is on a net and names another as the cell before it.
+fn comes_from(drawing: &[Record], cell: u16, from: u16) -> bool
+    ensures { λ r. ⌜ Decides r (before-at (now (drawing .entry)) cell ≡ Some from) ⌝ }
+{
+    match record_at(drawing, cell).before() {
+        Some(before) => before == from,
+        None => false,
+    }
+}
+
+// Whether a cell is on a net and names another as the cell after it.
+fn goes_to(drawing: &[Record], cell: u16, to: u16) -> bool
+    ensures { λ r. ⌜ Decides r (after-at (now (drawing .entry)) cell ≡ Some to) ⌝ }
+{
+    match record_at(drawing, cell).after() {
+        Some(after) => after == to,
+        None => false,
+    }
+}
+
+// Whether a net cell begins rightly: at a pad, or after a cell that leads on to it.
+fn begins<B: Board>(board: &B, drawing: &[Record], cell: u16, before: Option<u16>) -> bool
+    ensures { λ r. ⌜ Decides r (Begins (meaning (now (board .entry))) (now (drawing .entry)) cell before) ⌝ }
+{
+    match before {
+        Some(from) => goes_to(drawing, from, cell),
+        None => board.is_pad(cell),
+    }
+}
+
+// Whether a net cell goes on rightly: at a landing not at all, else to an outlet that comes from it.
+fn goes_on<B: Board>(board: &B, drawing: &[Record], cell: u16, after: Option<u16>) -> bool
+    ensures { λ r. ⌜ Decides r (Goes-on (meaning (now (board .entry))) (now (drawing .entry)) cell after) ⌝ }
+{
+    match after {
+        Some(to) => !board.is_landing(cell) && leads(board, cell, to) && comes_from(drawing, to, cell),
+        None => board.is_landing(cell),
+    }
+}
+
+// Whether a cell keeps the rules about itself and the cells that it names.
+fn fits<B: Board>(board: &B, drawing: &[Record], cell: u16) -> bool
+    ensures { λ r. ⌜ Decides r (Local (meaning (now (board .entry))) (now (drawing .entry)) cell) ⌝ }
+{
+    match record_at(drawing, cell) {
+        Record::Net { before, after } => begins(board, drawing, cell, before) && goes_on(board, drawing, cell, after),
+        Record::Free => true,
+        Record::Barred => true,
+    }
+}
+
+// Whether every cell does.
+fn is_local<B: Board>(board: &B, drawing: &[Record]) -> bool
+    ensures { λ r. ⌜ Decides r ((c : ℕ) → c < meaning (now (board .entry)) .cells → Local (meaning (now (board .entry))) (now (drawing .entry)) c) ⌝ }
+{
+    for cell in 0..board.cells() {
+        if !fits(board, drawing, cell) {
+            return false;
+        }
+    }
+    true
+}
