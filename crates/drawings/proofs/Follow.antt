@@ -73,6 +73,24 @@ onward-run {d} (suc k) (goes {c = c} {t = t} e r) h = ap (λ o. c ∷ onward d o
 pub net-run : {d : List Record} {c : ℕ} {xs : List ℕ} → Runs d c xs → net d c ≡ xs
 net-run {d} r = onward-run (length d) r (run-short r)
 
+-- one step along a net
+pub net-step : (d : List Record) (c t : ℕ) → Runs d c (net d c) → after-at d c ≡ Some t → Runs d t (net d t) × (net d c ≡ c ∷ net d t)
+net-step d c t r q = go (net d c) refl r
+  where
+    go : (xs : List ℕ) → net d c ≡ xs → Runs d c xs → Runs d t (net d t) × (net d c ≡ c ∷ net d t)
+    go xs e (ends p) = absurd (none-not-some (sym (last-net (record-at d c) p .1) ∙ q))
+    go xs e (goes {xs = ys} p s) =
+      let s′ = subst (λ v. Runs d v ys) (some-same p q) s in
+      (subst (Runs d t) (sym (net-run s′)) s′, e ∙ ap (λ zs. c ∷ zs) (sym (net-run s′)))
+
+-- and its end
+pub net-stop : (d : List Record) (c : ℕ) → Runs d c (net d c) → after-at d c ≡ None → net d c ≡ c ∷ []
+net-stop d c r q = go (net d c) refl r
+  where
+    go : (xs : List ℕ) → net d c ≡ xs → Runs d c xs → net d c ≡ c ∷ []
+    go xs e (ends p) = e
+    go xs e (goes {t = t} p s) = absurd (none-not-some (sym q ∙ p))
+
 -- ---- with the local rules
 
 -- c is reached from the first cell f, and xs are the cells before it, the nearest first

@@ -3,3 +3,5 @@ pub mod Cells
 pub mod Outlets
 pub mod Said
 pub mod Follow
+pub mod Counts
+pub mod Locals

@@ -7,12 +7,12 @@ ghost use mathlib.Core.Bool.{true, false};
 ghost use Prim.Native.Nat.{ℕ, _<_, _≤_};
 ghost use lib.ListN.{length};
 ghost use Rattle.std.specs.Orderings.{Decides};
-ghost use Rattle.std.specs.shelf.Lists.{countBy};
+ghost use Rattle.std.specs.shelf.Lists.{joined};
 ghost use Rattle.std.specs.declared.option.Option.the-variants.{Some};
 ghost use Rattle.boards.specs.Meaning.{outlets-of, pad-at, landing-at};
 ghost use Rattle.linkages.specs.Lists.{Mem};
-ghost use Rattle.drawings.specs.Records.{is-net, is-barred, record-at};
-ghost use Rattle.drawings.specs.Nets.{before-at, after-at, net};
+
+ghost use Rattle.drawings.specs.Nets.{before-at, after-at, net-at, cells-where, wired, net, Runs};
 ghost use Rattle.drawings.specs.Lawful.{Local, Begins, Goes-on, Lawful};
 use boards::board::Board;
 
@@ -94,4 +94,59 @@ fn is_local<B: Board>(board: &B, drawing: &[Record]) -> bool
         }
     }
     true
+}
+
+// The number of cells on nets.
+fn net_cells(drawing: &[Record]) -> usize
+    ensures { λ r. ⌜ r ≡ length (cells-where (now (drawing .entry)) (net-at (now (drawing .entry)))) ⌝ }
+{
+    let mut count = 0;
+    for record in drawing {
+        if record.is_net() {
+            count += 1;
+        }
+    }
+    count
+}
+
+// The number of cells of the net that begins at a cell.
+fn net_length(drawing: &[Record], first: u16) -> usize
+    requires { ⌜ Runs (now drawing) first (net (now drawing) first) ⌝ }
+    ensures { λ r. ⌜ r ≡ length (net (now (drawing .entry)) first) ⌝ }
+{
+    let mut cell = first;
+    let mut count = 1;
+    while let Some(next) = record_at(drawing, cell).after() {
+        cell = next;
+        count += 1;
+    }
+    count
+}
+
+// The number of cells met by following every net from its first cell.
+fn reached_cells<B: Board>(board: &B, drawing: &[Record]) -> usize
+    requires long { ⌜ length (now drawing) ≡ meaning (now board) .cells ⌝ }
+    requires local { ⌜ ((c : ℕ) → Local (meaning (now board)) (now drawing) c) ⌝ }
+    ensures { λ r. ⌜ r ≡ length (joined (net (now (drawing .entry))) (wired (now (drawing .entry)))) ⌝ }
+{
+    let mut count = 0;
+    for cell in 0..board.cells() {
+        if record_at(drawing, cell).is_first() {
+            count += net_length(drawing, cell);
+        }
+    }
+    count
+}
+
+// Whether a drawing is lawful for a board, for any records whatever.
+pub fn is_lawful<B: Board>(board: &B, drawing: &[Record]) -> bool
+    ensures { λ r. ⌜ Decides r (Lawful (meaning (now (board .entry))) (now (drawing .entry))) ⌝ }
+{
+    if drawing.len() != board.cells() as usize {
+        return false;
+    }
+    if !is_local(board, drawing) {
+        return false;
+    }
+    net_cells(drawing) == reached_cells(board, drawing)
 }
