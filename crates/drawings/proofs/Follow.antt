@@ -73,23 +73,25 @@ onward-run {d} (suc k) (goes {c = c} {t = t} e r) h = ap (λ o. c ∷ onward d o
 pub net-run : {d : List Record} {c : ℕ} {xs : List ℕ} → Runs d c xs → net d c ≡ xs
 net-run {d} r = onward-run (length d) r (run-short r)
 
--- one step along a net
-pub net-step : (d : List Record) (c t : ℕ) → Runs d c (net d c) → after-at d c ≡ Some t → Runs d t (net d t) × (net d c ≡ c ∷ net d t)
-net-step d c t r q = go (net d c) refl r
-  where
-    go : (xs : List ℕ) → net d c ≡ xs → Runs d c xs → Runs d t (net d t) × (net d c ≡ c ∷ net d t)
-    go xs e (ends p) = absurd (none-not-some (sym (last-net (record-at d c) p .1) ∙ q))
-    go xs e (goes {xs = ys} p s) =
-      let s′ = subst (λ v. Runs d v ys) (some-same p q) s in
-      (subst (Runs d t) (sym (net-run s′)) s′, e ∙ ap (λ zs. c ∷ zs) (sym (net-run s′)))
+-- one step along a run
+pub run-step : {d : List Record} {c : ℕ} {xs : List ℕ} (t : ℕ) → Runs d c xs → after-at d c ≡ Some t → (ys : List ℕ) × Runs d t ys × (xs ≡ c ∷ ys)
+run-step {d} t (ends {c = c} e) q = absurd (none-not-some (sym (last-net (record-at d c) e .1) ∙ q))
+run-step {d} t (goes {xs = ys} e r) q = (ys, subst (λ v. Runs d v ys) (some-same e q) r, refl)
 
 -- and its end
+pub run-stop : {d : List Record} {c : ℕ} {xs : List ℕ} → Runs d c xs → after-at d c ≡ None → xs ≡ c ∷ []
+run-stop (ends e) q = refl
+run-stop (goes {t = t} e r) q = absurd (none-not-some (sym q ∙ e))
+
+-- the same of a net
+pub net-here : {d : List Record} {c : ℕ} {xs : List ℕ} → Runs d c xs → Runs d c (net d c)
+net-here {d} {c} r = subst (Runs d c) (sym (net-run r)) r
+
+pub net-step : (d : List Record) (c t : ℕ) → Runs d c (net d c) → after-at d c ≡ Some t → Runs d t (net d t) × (net d c ≡ c ∷ net d t)
+net-step d c t r q = let h = run-step t r q in (net-here (h .1), h .2 ∙ ap (λ zs. c ∷ zs) (sym (net-run (h .1))))
+
 pub net-stop : (d : List Record) (c : ℕ) → Runs d c (net d c) → after-at d c ≡ None → net d c ≡ c ∷ []
-net-stop d c r q = go (net d c) refl r
-  where
-    go : (xs : List ℕ) → net d c ≡ xs → Runs d c xs → net d c ≡ c ∷ []
-    go xs e (ends p) = e
-    go xs e (goes {t = t} p s) = absurd (none-not-some (sym q ∙ p))
+net-stop d c r q = run-stop r q
 
 -- ---- with the local rules
 

@@ -1,3 +1,4 @@
 pub mod Records
 pub mod Nets
 pub mod Lawful
+pub mod Changes

@@ -59,6 +59,11 @@ onward d (Some c) (suc k) = c ∷ onward d (after-at d c) k
 abbrev pub net : List Record → ℕ → List ℕ
 net d c = onward d (Some c) (length d)
 
+-- the last cell of a list, or c if it has none
+abbrev pub last-of : ℕ → List ℕ → ℕ
+last-of c [] = c
+last-of c (x ∷ xs) = last-of x xs
+
 abbrev pub nets : List Record → List (List ℕ)
 nets d = map (net d) (wired d)
 

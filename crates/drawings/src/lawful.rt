@@ -12,10 +12,11 @@ ghost use Rattle.std.specs.declared.option.Option.the-variants.{Some};
 ghost use Rattle.boards.specs.Meaning.{outlets-of, pad-at, landing-at};
 ghost use Rattle.linkages.specs.Lists.{Mem};
 
-ghost use Rattle.drawings.specs.Nets.{before-at, after-at, net-at, cells-where, wired, net, Runs};
+ghost use Rattle.drawings.specs.Nets.{before-at, after-at, net-at, cells-where, wired, net};
 ghost use Rattle.drawings.specs.Lawful.{Local, Begins, Goes-on, Lawful};
 use boards::board::Board;
 
+use crate::nets::net_length;
 use crate::records::Record;
 use crate::records::record_at;
 
@@ -109,20 +110,6 @@ fn net_cells(drawing: &[Record]) -> usize
     count
 }
 
-// The number of cells of the net that begins at a cell.
-fn net_length(drawing: &[Record], first: u16) -> usize
-    requires { ⌜ Runs (now drawing) first (net (now drawing) first) ⌝ }
-    ensures { λ r. ⌜ r ≡ length (net (now (drawing .entry)) first) ⌝ }
-{
-    let mut cell = first;
-    let mut count = 1;
-    while let Some(next) = record_at(drawing, cell).after() {
-        cell = next;
-        count += 1;
-    }
-    count
-}
-
 // The number of cells met by following every net from its first cell.
 fn reached_cells<B: Board>(board: &B, drawing: &[Record]) -> usize
     requires long { ⌜ length (now drawing) ≡ meaning (now board) .cells ⌝ }
@@ -132,7 +119,9 @@ fn reached_cells<B: Board>(board: &B, drawing: &[Record]) -> usize
     let mut count = 0;
     for cell in 0..board.cells() {
         if record_at(drawing, cell).is_first() {
-            count += net_length(drawing, cell);
+            if let Some(length) = net_length(drawing, cell) {
+                count += length;
+            }
         }
     }
     count

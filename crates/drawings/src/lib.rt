@@ -2,4 +2,5 @@
 //
 // A drawing is a slice of records that the caller lends, one for each cell of a board.
 pub mod lawful;
+pub mod nets;
 pub mod records;

@@ -1,6 +1,6 @@
 // What a drawing holds for each cell.
 ghost use mathlib.Core.Path.{_≡_};
-ghost use lib.ListN.{getD};
+ghost use lib.ListN.{set};
 ghost use Rattle.drawings.specs.Records.{before-of, after-of, is-net, is-first, is-last, is-barred, record-at};
 
 // A cell is free, barred or on a net; on a net it names the cell before it or none, and the cell after it or none.
@@ -73,4 +73,13 @@ pub fn record_at(drawing: &[Record], cell: u16) -> Record
     ensures { λ r. ⌜ r ≡ record-at (now (drawing .entry)) cell ⌝ }
 {
     if (cell as usize) < drawing.len() { drawing[cell as usize] } else { Record::Free }
+}
+
+// Writes the record of a cell; past the last record nothing is written.
+pub fn put(drawing: &mut [Record], cell: u16, record: Record)
+    ensures { λ _. ⌜ now (drawing .exit) ≡ set (now (drawing .entry)) cell «record» ⌝ }
+{
+    if (cell as usize) < drawing.len() {
+        drawing[cell as usize] = record;
+    }
 }
