@@ -70,7 +70,7 @@ module _ (m : Meaning) (d : List Record) (L : (c : ℕ) → Local m d c) where
   unfolding met
   counts-reach e c h =
       let i = within-back (met (length d)) (cells-where d (net-at d)) (met-distinct (length d)) met-within (omega arith) c
-            (below-kept (net-at d) (length d) c (net-inside d c h) h) in
+      (below-kept (net-at d) (length d) c (net-inside d c h) h) in
       let k = joined-cases (net d) c (wired d) i in
       net-reached m d L (k .0) c (kept-below (first-at d) (length d) (k .0) (k .1) .1) (k .2)
 
@@ -80,7 +80,7 @@ module _ (m : Meaning) (d : List Record) (L : (c : ℕ) → Local m d c) where
   reach-counts f =
       let low = length-within (met (length d)) (cells-where d (net-at d)) (met-distinct (length d)) met-within in
       let high = length-within (cells-where d (net-at d)) (met (length d)) (distinct-kept-below (net-at d) (length d))
-            (λ c i. let h = kept-below (net-at d) (length d) c i in
-                    let r = reached-net m d L (f c (h .1)) in
-                    mem-joined (net d) c (r .0) (wired d) (below-kept (first-at d) (length d) (r .0) (net-inside d (r .0) (first-net _ (r .1))) (r .1)) (r .2)) in
+      (λ c i. let h = kept-below (net-at d) (length d) c i in
+      let r = reached-net m d L (f c (h .1)) in
+      mem-joined (net d) c (r .0) (wired d) (below-kept (first-at d) (length d) (r .0) (net-inside d (r .0) (first-net _ (r .1))) (r .1)) (r .2)) in
       omega arith

@@ -53,7 +53,7 @@ run-from (goes e r) (there m) = let h = run-from r m in (h .0, h .1, omega (arit
 pub run-distinct : {d : List Record} {c : ℕ} {xs : List ℕ} → Runs d c xs → Distinct xs
 run-distinct (ends e) = (mem-none, tt)
 run-distinct {d} (goes {c = c} {xs = xs} e r) =
-    ( λ m. let h = run-from r m in let z : ⊥ = omega (arith, h .2, ap length (run-same (h .1) (goes e r))) in z, run-distinct r )
+    (λ m. let h = run-from r m in let z : ⊥ = omega (arith, h .2, ap length (run-same (h .1) (goes e r))) in z, run-distinct r)
 
 pub run-short : {d : List Record} {c : ℕ} {xs : List ℕ} → Runs d c xs → length xs ≤ length d
 run-short {d} {c} {xs} r = length-below (length d) xs (run-distinct r) (λ x m. net-inside d x (run-net r m))

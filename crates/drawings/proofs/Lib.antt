@@ -5,3 +5,4 @@ pub mod Said
 pub mod Follow
 pub mod Counts
 pub mod Locals
+pub mod Changed

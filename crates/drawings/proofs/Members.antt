@@ -58,9 +58,10 @@ mem-append-cases (x ∷ xs) (there m) = elim (mem-append-cases xs m) [ inl h ↦
 
 pub distinct-append : (xs ys : List ℕ) → Distinct xs → Distinct ys → ((c : ℕ) → Mem c xs → Mem c ys → ⊥) → Distinct (xs ++ ys)
 distinct-append [] ys d e apart = e
-distinct-append (x ∷ xs) ys d e apart =
-    ( λ m. elim (mem-append-cases xs m) [ inl h ↦ d .0 h | inr h ↦ apart x (here refl) h ],
-      distinct-append xs ys (d .1) e (λ c h. apart c (there h)) )
+distinct-append (x ∷ xs) ys d e apart = (
+  λ m. elim (mem-append-cases xs m) [ inl h ↦ d .0 h | inr h ↦ apart x (here refl) h ],
+  distinct-append xs ys (d .1) e (λ c h. apart c (there h)),
+)
 
 -- what a filter keeps
 pub kept-cases : (p : ℕ → Bool) (c : ℕ) (xs : List ℕ) → Mem c (kept-by p xs) → Mem c xs × (p c ≡ true)
@@ -130,7 +131,7 @@ length-within (x ∷ xs) ys d w =
     let rest : ℕ → Bool = λ y. not (eqb y x) in
     let shorter = length-dropped rest x ys (w x (here refl)) (ap not (eq-eqb x x refl)) in
     let inner = length-within xs (kept-by rest ys) (d .1)
-          (λ c m. mem-kept rest c ys (w c (there m)) (ap not (ne-eqb c x (λ e. d .0 (mem-at (sym e) m))))) in
+    (λ c m. mem-kept rest c ys (w c (there m)) (ap not (ne-eqb c x (λ e. d .0 (mem-at (sym e) m))))) in
     omega arith
 
 -- and if they are as many, they are all of it
@@ -140,8 +141,8 @@ within-back xs ys d w le c m = go (dec-mem c xs)
     go : Dec (Mem c xs) → Mem c xs
     go (yes h) = h
     go (no n) =
-      let long = length-within (c ∷ xs) ys (n, d) (λ x k. elim (mem-cases k) [ inl e ↦ mem-at e m | inr h ↦ w x h ]) in
-      let z : ⊥ = omega arith in absurd z
+        let long = length-within (c ∷ xs) ys (n, d) (λ x k. elim (mem-cases k) [ inl e ↦ mem-at e m | inr h ↦ w x h ]) in
+        let z : ⊥ = omega arith in absurd z
 
 -- lists joined
 pub joined-cases : (F : ℕ → List ℕ) (c : ℕ) (xs : List ℕ) → Mem c (joined F xs) → (x : ℕ) × Mem x xs × Mem c (F x)
@@ -159,5 +160,5 @@ pub distinct-joined : (F : ℕ → List ℕ) (xs : List ℕ) → Distinct xs →
 distinct-joined F [] d each apart = tt
 distinct-joined F (x ∷ xs) d each apart =
     distinct-append (F x) (joined F xs) (each x (here refl))
-      (distinct-joined F xs (d .1) (λ y m. each y (there m)) (λ y z c m n. apart y z c (there m) (there n)))
-      (λ c m n. let k = joined-cases F c xs n in d .0 (mem-at (apart x (k .0) c (here refl) (there (k .1)) m (k .2)) (k .1)))
+    (distinct-joined F xs (d .1) (λ y m. each y (there m)) (λ y z c m n. apart y z c (there m) (there n)))
+    (λ c m n. let k = joined-cases F c xs n in d .0 (mem-at (apart x (k .0) c (here refl) (there (k .1)) m (k .2)) (k .1)))

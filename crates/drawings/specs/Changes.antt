@@ -1,7 +1,7 @@
 -- Drawings with a net taken up, and with one laid.
-use mathlib.Core.List.{List, [], _∷_}
+use mathlib.Core.List.{List, [], _∷_, _++_}
 use Prim.Native.Nat.{ℕ}
-use lib.ListN.{set}
+use lib.ListN.{length, set, drop}
 use Rattle.std.specs.declared.option.Option.{Option}
 use Rattle.std.specs.declared.option.Option.the-variants.{Some, None}
 use Rattle.drawings.specs.declared.records.Record.{Record}
@@ -24,3 +24,7 @@ laid-after b (c ∷ cs) d = laid-after (Some c) cs (set d c (Net b (head-of cs))
 
 abbrev pub laid : List ℕ → List Record → List Record
 laid cs d = laid-after None cs d
+
+-- a list with other numbers written to its front
+abbrev pub written : List ℕ → List ℕ → List ℕ
+written xs ys = xs ++ drop (length xs) ys

@@ -11,14 +11,12 @@ ghost use Rattle.std.specs.shelf.Lists.{joined};
 ghost use Rattle.std.specs.declared.option.Option.the-variants.{Some};
 ghost use Rattle.boards.specs.Meaning.{outlets-of, pad-at, landing-at};
 ghost use Rattle.linkages.specs.Lists.{Mem};
-
 ghost use Rattle.drawings.specs.Nets.{before-at, after-at, net-at, cells-where, wired, net};
 ghost use Rattle.drawings.specs.Lawful.{Local, Begins, Goes-on, Lawful};
-use boards::board::Board;
-
 use crate::nets::net_length;
 use crate::records::Record;
 use crate::records::record_at;
+use boards::board::Board;
 
 // Whether a cell is an outlet of another.
 fn leads<B: Board>(board: &B, from: u16, to: u16) -> bool
@@ -69,7 +67,9 @@ fn goes_on<B: Board>(board: &B, drawing: &[Record], cell: u16, after: Option<u16
     ensures { λ r. ⌜ Decides r (Goes-on (meaning (now (board .entry))) (now (drawing .entry)) cell after) ⌝ }
 {
     match after {
-        Some(to) => !board.is_landing(cell) && leads(board, cell, to) && comes_from(drawing, to, cell),
+        Some(to) => !board.is_landing(cell)
+            && leads(board, cell, to)
+            && comes_from(drawing, to, cell),
         None => board.is_landing(cell),
     }
 }
@@ -79,7 +79,8 @@ fn fits<B: Board>(board: &B, drawing: &[Record], cell: u16) -> bool
     ensures { λ r. ⌜ Decides r (Local (meaning (now (board .entry))) (now (drawing .entry)) cell) ⌝ }
 {
     match record_at(drawing, cell) {
-        Record::Net { before, after } => begins(board, drawing, cell, before) && goes_on(board, drawing, cell, after),
+        Record::Net { before, after } => begins(board, drawing, cell, before)
+            && goes_on(board, drawing, cell, after),
         Record::Free => true,
         Record::Barred => true,
     }

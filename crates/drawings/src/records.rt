@@ -8,7 +8,10 @@ ghost use Rattle.drawings.specs.Records.{before-of, after-of, is-net, is-first
 pub enum Record {
     Free,
     Barred,
-    Net { before: Option<u16>, after: Option<u16> },
+    Net {
+        before: Option<u16>,
+        after: Option<u16>,
+    },
 }
 
 impl Record {
@@ -72,7 +75,11 @@ impl Record {
 pub fn record_at(drawing: &[Record], cell: u16) -> Record
     ensures { λ r. ⌜ r ≡ record-at (now (drawing .entry)) cell ⌝ }
 {
-    if (cell as usize) < drawing.len() { drawing[cell as usize] } else { Record::Free }
+    if (cell as usize) < drawing.len() {
+        drawing[cell as usize]
+    } else {
+        Record::Free
+    }
 }
 
 // Writes the record of a cell; past the last record nothing is written.

@@ -9,17 +9,18 @@ pub reached-cells-requires : need.reached-cells-requires
 reached-cells-requires g c κs = record {
   long = omega arith;
   local = local-everywhere (g .B·Board .meaning (c .args .board .now)) (c .args .drawing .now)
-    (λ x h. c .is-local .ensures .0 (c .if-not-is-local .left) x (omega arith));
+      (λ x h. c .is-local .ensures .0 (c .if-not-is-local .left) x (omega arith));
 }
 
 pub returns : need.returns
 returns g c =
     let m = g .B·Board .meaning (c .args .board .now) in
     let d = c .args .drawing .now in
-    let L = local-everywhere m d (λ x h. c .is-local .ensures .0 (c .if-not-is-local .left) x (omega arith)) in
-    ( λ e. record {
+    let L = local-everywhere m d (λ x h. c .is-local .ensures .0 (c .if-not-is-local .left) x (omega arith)) in (
+      λ e. record {
         one-each = omega arith;
         local = L;
         reached = counts-reach m d L (sym (c .net-cells .ensures) ∙ eqb-true (c .net-cells .result) (c .reached-cells .result) e ∙ c .reached-cells .ensures);
       },
-      λ w. eq-eqb (c .net-cells .result) (c .reached-cells .result) (c .net-cells .ensures ∙ reach-counts m d L (w .reached) ∙ sym (c .reached-cells .ensures)) )
+      λ w. eq-eqb (c .net-cells .result) (c .reached-cells .result) (c .net-cells .ensures ∙ reach-counts m d L (w .reached) ∙ sym (c .reached-cells .ensures)),
+    )

@@ -14,6 +14,7 @@ returns-then-outlet-to g c =
 pub returns : need.returns
 returns g c =
     let m = g .B·Board .meaning (c .args .board .now) in
-    let few = g .B·Board·met .bounded (c .args .board .now) .few-outlets (c .args .from) in
-    ( λ e. absurd (false≢true e),
-      λ h. let p = mem-outlet (outlets-of m (c .args .from)) (c .args .to) h in absurd (c .loop-j .inv (p .0) (omega (arith, p .1, few)) (p .2)) )
+    let few = g .B·Board·met .bounded (c .args .board .now) .few-outlets (c .args .from) in (
+      λ e. absurd (false≢true e),
+      λ h. let p = mem-outlet (outlets-of m (c .args .from)) (c .args .to) h in absurd (c .loop-j .inv (p .0) (omega (arith, p .1, few)) (p .2)),
+    )

@@ -13,6 +13,7 @@ pub loop-record-again : need.loop-record-again
 loop-record-again c =
     let p = net-at (c .args .drawing .now) in
     let i = c .loop-record .record-index in
-    elim (c .if-is-net .came)
-    [ then-is-net w ↦ w .count-is ∙ ap (λ n. n + 1) (c .loop-record .inv) ∙ sym (count-yes p i (sym (w .if-is-net .ensures tt)))
-    | else-is-net w ↦ w .count-is ∙ c .loop-record .inv ∙ sym (count-no p i (sym (w .if-is-net .ensures tt))) ]
+    elim (c .if-is-net .came) [
+      | then-is-net w ↦ w .count-is ∙ ap (λ n. n + 1) (c .loop-record .inv) ∙ sym (count-yes p i (sym (w .if-is-net .ensures tt)))
+      | else-is-net w ↦ w .count-is ∙ c .loop-record .inv ∙ sym (count-no p i (sym (w .if-is-net .ensures tt)))
+    ]

@@ -23,12 +23,13 @@ loop-cell-again g c =
     let d = c .args .drawing .now in
     let m = g .B·Board .meaning (c .args .board .now) in
     let i = c .loop-cell .cell in
-    elim (c .if-is-first .came)
-    [ then-is-first·in-Some w ↦
-      let more = joined-yes (net d) (first-at d) i (sym (ap is-first (c .record-at .ensures)) ∙ sym (w .if-is-first .ensures tt)) in
-      omega (arith, w .count-is, w .in-Some .ensures tt .1, c .loop-cell .inv)
-    | then-is-first·in-rest w ↦
-      absurd (w .in-rest .ensures tt (net d i) (net-runs m d (c .pre .local) i (sym (ap is-first (c .record-at .ensures)) ∙ sym (w .if-is-first .ensures tt))))
-    | else-is-first w ↦
-      let same = joined-no (net d) (first-at d) i (sym (ap is-first (c .record-at .ensures)) ∙ sym (w .if-is-first .ensures tt)) in
-      omega (arith, w .count-is, c .loop-cell .inv) ]
+    elim (c .if-is-first .came) [
+      | then-is-first·in-Some w ↦
+          let more = joined-yes (net d) (first-at d) i (sym (ap is-first (c .record-at .ensures)) ∙ sym (w .if-is-first .ensures tt)) in
+          omega (arith, w .count-is, w .in-Some .ensures tt .1, c .loop-cell .inv)
+      | then-is-first·in-rest w ↦
+          absurd (w .in-rest .ensures tt (net d i) (net-runs m d (c .pre .local) i (sym (ap is-first (c .record-at .ensures)) ∙ sym (w .if-is-first .ensures tt))))
+      | else-is-first w ↦
+          let same = joined-no (net d) (first-at d) i (sym (ap is-first (c .record-at .ensures)) ∙ sym (w .if-is-first .ensures tt)) in
+          omega (arith, w .count-is, c .loop-cell .inv)
+    ]
