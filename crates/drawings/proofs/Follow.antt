@@ -101,7 +101,7 @@ pub data Back (d : List Record) (f : ℕ) : ℕ → List ℕ → Type 0 where
   past : {s c : ℕ} {xs : List ℕ} → Back d f s xs → after-at d s ≡ Some c → Back d f c (s ∷ xs)
 
 module _ (m : Meaning) (d : List Record) (L : (c : ℕ) → Local m d c) where
-  not-first : (s c : ℕ) → after-at d s ≡ Some c → first-at d c ≡ true → ⊥
+  pub not-first : (s c : ℕ) → after-at d s ≡ Some c → first-at d c ≡ true → ⊥
   not-first s c q p = both-ways (first-at d c) (before-net (record-at d c) s (L s .after-names-back c q) .1) p
 
   -- a cell is reached in one way
@@ -144,6 +144,10 @@ module _ (m : Meaning) (d : List Record) (L : (c : ℕ) → Local m d c) where
       go None e rec = ends (net-last (record-at d c) (back-net B) e)
       go (Some t) e rec = goes e (rec t e)
 
+  back-first : {f c : ℕ} {xs : List ℕ} → Back d f c xs → first-at d f ≡ true
+  back-first (at-first e p) = subst (λ x. first-at d x ≡ true) e p
+  back-first (past B q) = back-first B
+
   -- the net of a first cell comes to an end
   pub net-runs : (f : ℕ) → first-at d f ≡ true → Runs d f (net d f)
   net-runs f p = run-on (length d) (at-first refl p) (omega arith)
@@ -157,6 +161,10 @@ module _ (m : Meaning) (d : List Record) (L : (c : ℕ) → Local m d c) where
 
   pub net-back : (f x : ℕ) → first-at d f ≡ true → Mem x (net d f) → (ys : List ℕ) × Back d f x ys
   net-back f x p k = run-back (at-first refl p) (net-runs f p) k
+
+  pub back-on : {f c : ℕ} {xs : List ℕ} → Back d f c xs → Mem c (net d f)
+  back-on {f} (at-first {c = c} e p) = mem-at e (run-first (net-runs f (subst (λ x. first-at d x ≡ true) e p)))
+  back-on {f} (past B q) = run-next (net-runs f (back-first B)) (back-on B) q
 
   -- no cell is on two nets
   pub nets-apart : (f g x : ℕ) → first-at d f ≡ true → first-at d g ≡ true → Mem x (net d f) → Mem x (net d g) → f ≡ g

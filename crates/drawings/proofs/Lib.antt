@@ -6,3 +6,4 @@ pub mod Follow
 pub mod Counts
 pub mod Locals
 pub mod Changed
+pub mod Freeing

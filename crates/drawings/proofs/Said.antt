@@ -55,6 +55,11 @@ barred-off Free e = refl
 barred-off Barred e = refl
 barred-off (Net b a) e = absurd (false≢true e)
 
+pub net-unbarred : (r : Record) → is-net r ≡ true → is-barred r ≡ false
+net-unbarred Free e = refl
+net-unbarred Barred e = absurd (false≢true e)
+net-unbarred (Net b a) e = refl
+
 -- a net cell has a record
 pub net-inside : (d : List Record) (c : ℕ) → net-at d c ≡ true → c < length d
 net-inside d c e = ⊎-elim (λ l. l) (λ h. absurd (false≢true (sym (ap is-net (getD-past d c Free h)) ∙ e))) (cases-lt c (length d))

@@ -2,3 +2,6 @@ pub mod Records
 pub mod Nets
 pub mod Lawful
 pub mod Changes
+pub mod Numbers
+pub mod Conditions
+pub mod Outcomes
