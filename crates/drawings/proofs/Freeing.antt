@@ -19,16 +19,30 @@ use Rattle.drawings.specs.declared.records.Record.the-variants.{Free, Barred, 
 use Rattle.drawings.specs.Records.{before-of, after-of, is-net, is-first, is-last, is-barred, record-at}
 use Rattle.drawings.specs.Nets.{before-at, after-at, net-at, first-at, last-at, barred-at, cells-where, wired, bars, used, net, last-of, without, Runs, ends, goes}
 use Rattle.drawings.specs.Lawful.{Local, Reached, first, next, Lawful}
+use Rattle.drawings.specs.Changes.{freed}
 use Rattle.drawings.specs.Outcomes.{Frees}
 use Rattle.drawings.proofs.Members.{mem-none, mem-at, dec-mem, same-kept, kept-twice}
 use Rattle.drawings.proofs.Said.{none-not-some, some-same, before-net, after-net, first-net, last-net, net-unbarred}
 use Rattle.drawings.proofs.Locals.{local-free}
-use Rattle.drawings.proofs.Follow.{Back, at-first, past, run-first, run-next, run-net, net-runs, net-back, nets-apart, not-first, back-on}
+use Rattle.drawings.proofs.Changed.{freed-long, freed-inside, freed-outside, run-kept}
+use Rattle.drawings.proofs.Cells.{kept-below}
+use Rattle.drawings.proofs.Follow.{net-run, Back, at-first, past, run-first, run-next, run-net, net-runs, net-back, nets-apart, not-first, back-on}
+
+pub frees : (xs : List ℕ) (d e : List Record) → e ≡ freed xs d → Frees xs d e
+frees xs d e same = record {
+  long = ap length same ∙ freed-long xs d;
+  inside = λ k i. ap (λ z. record-at z k) same ∙ freed-inside xs d k i;
+  outside = λ k n. ap (λ z. record-at z k) same ∙ freed-outside xs d k n;
+}
+
+-- a net outside is the same
+pub net-outside : (d e : List Record) (xs : List ℕ) (w : ℕ) → Frees xs d e → Runs d w (net d w) → ((k : ℕ) → Mem k (net d w) → Mem k xs → ⊥) → net e w ≡ net d w
+net-outside d e xs w F r away = net-run (run-kept e r (λ k i. F .outside k (away k i)))
 
 -- ---- a set of cells that nets neither enter nor leave
 
 module _ (m : Meaning) (d e : List Record) (xs : List ℕ) (L : (c : ℕ) → Local m d c) (F : Frees xs d e)
-  (onto : (s t : ℕ) → Mem s xs → after-at d s ≡ Some t → Mem t xs) (back : (s t : ℕ) → Mem t xs → after-at d s ≡ Some t → Mem s xs) where
+    (onto : (s t : ℕ) → Mem s xs → after-at d s ≡ Some t → Mem t xs) (back : (s t : ℕ) → Mem t xs → after-at d s ≡ Some t → Mem s xs) where
   off-local : (k : ℕ) → (Mem k xs → ⊥) → Local m e k
   off-local k n =
       let same = F .outside k n in
@@ -38,11 +52,11 @@ module _ (m : Meaning) (d e : List Record) (xs : List ℕ) (L : (c : ℕ) → Lo
         landing-is-last = λ h l. ap is-last same ∙ L k .landing-is-last (sym (ap is-net same) ∙ h) l;
         after-is-outlet = λ t h. L k .after-is-outlet t (sym (ap after-of same) ∙ h);
         after-names-back = λ t h.
-          let q = sym (ap after-of same) ∙ h in
-          ap before-of (F .outside t (λ i. n (back k t i q))) ∙ L k .after-names-back t q;
+            let q = sym (ap after-of same) ∙ h in
+            ap before-of (F .outside t (λ i. n (back k t i q))) ∙ L k .after-names-back t q;
         before-names-on = λ s h.
-          let q = L k .before-names-on s (sym (ap before-of same) ∙ h) in
-          ap after-of (F .outside s (λ i. n (onto s k i q))) ∙ q;
+            let q = L k .before-names-on s (sym (ap before-of same) ∙ h) in
+            ap after-of (F .outside s (λ i. n (onto s k i q))) ∙ q;
       }
 
   pub free-local : (k : ℕ) → Local m e k
@@ -122,8 +136,8 @@ module _ (m : Meaning) (d e : List Record) (c : ℕ) (W : Lawful m d) (p : first
       go : (k : ℕ) → Dec (Mem k (net d c)) → (k ≡ c) ⊎ (k ≡ c → ⊥) → first-at e k ≡ (first-at d k && not (eqb k c))
       go k (yes i) (inl f) = ap is-first (F .inside k i) ∙ sym (and-not-same (first-at d k) k c f)
       go k (yes i) (inr n) =
-        ap is-first (F .inside k i) ∙
-        sym (and-left (first-at d k) (not (eqb k c)) (⊎-elim (λ h. absurd (n (nets-apart m d (W .local) k c k h p (run-first (net-runs m d (W .local) k h)) i))) (λ h. h) (cases-bool (first-at d k))))
+          ap is-first (F .inside k i) ∙
+          sym (and-left (first-at d k) (not (eqb k c)) (⊎-elim (λ h. absurd (n (nets-apart m d (W .local) k c k h p (run-first (net-runs m d (W .local) k h)) i))) (λ h. h) (cases-bool (first-at d k))))
       go k (no j) (inl f) = absurd (j (mem-at f (run-first run)))
       go k (no j) (inr n) = ap is-first (F .outside k j) ∙ sym (and-not-other (first-at d k) k c n)
 
@@ -142,8 +156,51 @@ module _ (m : Meaning) (d e : List Record) (c : ℕ) (W : Lawful m d) (p : first
           (net-at e k && landing-at m k) ≡ ((net-at d k && landing-at m k) && not (eqb k (last-of c (net d c))))
       go k (yes i) (inl f) = ap (λ b. b && landing-at m k) (ap is-net (F .inside k i)) ∙ sym (and-not-same (net-at d k && landing-at m k) k (last-of c (net d c)) f)
       go k (yes i) (inr n) =
-        ap (λ b. b && landing-at m k) (ap is-net (F .inside k i)) ∙
-        sym (and-left (net-at d k && landing-at m k) (not (eqb k (last-of c (net d c)))) (and-right (net-at d k) (landing-at m k)
+          ap (λ b. b && landing-at m k) (ap is-net (F .inside k i)) ∙
+          sym (and-left (net-at d k && landing-at m k) (not (eqb k (last-of c (net d c)))) (and-right (net-at d k) (landing-at m k)
           (⊎-elim (λ h. absurd (n (run-last-only c run i (W .local k .landing-is-last (run-net run i) h)))) (λ h. h) (cases-bool (landing-at m k)))))
       go k (no j) (inl f) = absurd (j (mem-at f (run-last-mem c run)))
       go k (no j) (inr n) = ap (λ b. b && landing-at m k) (ap is-net (F .outside k j)) ∙ sym (and-not-other (net-at d k && landing-at m k) k (last-of c (net d c)) n)
+
+  pub lift-nets : (w : ℕ) → Mem w (wired e) → net e w ≡ net d w
+  lift-nets w i =
+      let h = kept-below (first-at e) (length e) w i in
+      let off = λ (k : Mem w (net d c)). false≢true (sym (ap is-first (F .inside w k)) ∙ h .1) in
+      let q = sym (ap is-first (F .outside w off)) ∙ h .1 in
+      net-outside d e (net d c) w F (net-runs m d (W .local) w q)
+      (λ k j l. off (mem-at (nets-apart m d (W .local) w c k q p j l) (run-first run)))
+
+-- ---- a bar
+
+module _ (m : Meaning) (d e : List Record) (c : ℕ) (W : Lawful m d) (b : barred-at d c ≡ true) (F : Frees (c ∷ []) d e) where
+  only : {k : ℕ} → Mem k (c ∷ []) → k ≡ c
+  only (here f) = f
+  only (there i) = absurd (mem-none i)
+
+  off-net : {k : ℕ} → Mem k (c ∷ []) → net-at d k ≡ true → ⊥
+  off-net {k} i h = both-ways (barred-at d k) (net-unbarred (record-at d k) h) (ap (barred-at d) (only i) ∙ b)
+
+  pub clear-lawful : Lawful m e
+  clear-lawful = free-lawful m d e (c ∷ []) (W .local) F
+      (λ s t i q. absurd (off-net i (after-net (record-at d s) t q .0)))
+      (λ s t i q. absurd (off-net i (before-net (record-at d t) s (W .local s .after-names-back t q) .0)))
+      (W .one-each) (λ k n. W .reached k)
+
+  pub clear-wired : wired e ≡ wired d
+  clear-wired = cells-same d e (first-at e) (first-at d) (F .long) (λ k. go k (dec-mem k (c ∷ [])))
+    where
+      go : (k : ℕ) → Dec (Mem k (c ∷ [])) → first-at e k ≡ first-at d k
+      go k (yes i) = ap is-first (F .inside k i) ∙ sym (⊎-elim (λ h. absurd (off-net i (first-net (record-at d k) h))) (λ h. h) (cases-bool (first-at d k)))
+      go k (no n) = ap is-first (F .outside k n)
+
+  pub clear-bars : bars e ≡ without c (bars d)
+  clear-bars = cells-without d e (barred-at e) (barred-at d) c (F .long) (λ k. go k (cases-eq k c))
+    where
+      go : (k : ℕ) → (k ≡ c) ⊎ (k ≡ c → ⊥) → barred-at e k ≡ (barred-at d k && not (eqb k c))
+      go k (inl f) = ap is-barred (F .inside k (here f)) ∙ sym (and-not-same (barred-at d k) k c f)
+      go k (inr n) = ap is-barred (F .outside k (λ i. n (only i))) ∙ sym (and-not-other (barred-at d k) k c n)
+
+  pub clear-nets : (w : ℕ) → Mem w (wired d) → net e w ≡ net d w
+  clear-nets w i =
+      let r = net-runs m d (W .local) w (kept-below (first-at d) (length d) w i .1) in
+      net-outside d e (c ∷ []) w F r (λ k j l. off-net l (run-net r j))

@@ -162,3 +162,7 @@ distinct-joined F (x ∷ xs) d each apart =
     distinct-append (F x) (joined F xs) (each x (here refl))
     (distinct-joined F xs (d .1) (λ y m. each y (there m)) (λ y z c m n. apart y z c (there m) (there n)))
     (λ c m n. let k = joined-cases F c xs n in d .0 (mem-at (apart x (k .0) c (here refl) (there (k .1)) m (k .2)) (k .1)))
+
+pub kept-none : (p : ℕ → Bool) (xs : List ℕ) → ((x : ℕ) → p x ≡ false) → kept-by p xs ≡ []
+kept-none p [] f = refl
+kept-none p (x ∷ xs) f = ap (λ b. cond b (x ∷ kept-by p xs) (kept-by p xs)) (f x) ∙ kept-none p xs f
