@@ -7,3 +7,4 @@ pub mod Counts
 pub mod Locals
 pub mod Changed
 pub mod Freeing
+pub mod Linking

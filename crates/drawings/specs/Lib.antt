@@ -5,3 +5,4 @@ pub mod Changes
 pub mod Numbers
 pub mod Conditions
 pub mod Outcomes
+pub mod Links
