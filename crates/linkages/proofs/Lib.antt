@@ -4,3 +4,5 @@ pub mod Walks
 pub mod Fewer
 pub mod OneFence
 pub mod SameMembers
+pub mod NetLists
+pub mod SearchFence

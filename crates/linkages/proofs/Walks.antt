@@ -173,6 +173,10 @@ pub next-cases : {u t x : ℕ} {xs : List ℕ} → Next u t (x ∷ xs) → (u �
 next-cases (begins e f) = inl e
 next-cases (goes-on n) = inr n
 
+pub next-two : {u t x y : ℕ} {xs : List ℕ} → Next u t (x ∷ y ∷ xs) → ((u ≡ x) × (t ≡ y)) ⊎ Next u t (y ∷ xs)
+next-two (begins e f) = inl (e, f)
+next-two (goes-on n) = inr n
+
 pub next-not-one : {u t x : ℕ} → Next u t (x ∷ []) → ⊥
 next-not-one (goes-on n) = elim n [ ]
 
