@@ -6,3 +6,4 @@ pub mod OneFence
 pub mod SameMembers
 pub mod NetLists
 pub mod SearchFence
+pub mod Places

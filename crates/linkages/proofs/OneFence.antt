@@ -68,24 +68,50 @@ module _ (m : Meaning) (bars S′ : List ℕ) (p : ℕ) (L : Linkage m bars S′
   pub one-on-path : {q x y : ℕ} → Mem q (without p A) → Mem x X → Mem x (L .path q) → Mem y X → Mem y (L .path q) → x ≡ y
   one-on-path k = tight-one tight (mem-map (L .path) k)
 
+-- x is the only cell of X on a path; the path as far as x meets X′, and as far as that cell it meets X: so they are one cell
+one-place : {X X′ xs : List ℕ} {x : ℕ} → Distinct xs → ((y : ℕ) → Mem y X → Mem y xs → x ≡ y) → (on : Mem x xs) →
+    (h : Meets X′ (upto on)) → Meets X (upto (upto-within on (h .on))) → Mem x X′
+one-place d only on h g =
+    let on′ = upto-within on (h .on) in
+    mem-at (upto-same on on′ d (h .on) (mem-at (only (g .cell) (g .of) (upto-within on′ (g .on))) (g .on))) (h .of)
+
 half : (m : Meaning) (bars S S′ : List ℕ) (p : ℕ) → Within S (p ∷ S′) → Linkage m bars S′ → (A X A′ X′ : List ℕ) →
     Fence m bars S A X → Fence m bars S A′ X′ → Same A A′ → Within X X′
-half m bars S S′ p w L A X A′ X′ F F′ a x k =
-    let v : Within A (p ∷ S′) = λ c i. w c (F .inside c i) in
-    let s = on-path m bars S′ p L A X (F .pads-differ) v (F .count) (F .blocks) k in
-    let q = s .0 in
-    let P = L .runs q (linked m bars S′ p L A X (F .pads-differ) v (F .count) (F .blocks) q (s .1)) in
-    let in-A = mem-of-without p q A (s .1) .0 in
-    let i = same-length (F .pads-differ) (F′ .pads-differ) a in
-    let f = F .count in
-    let f′ = F′ .count in
-    let to : Blocks m bars A′ X = λ c z xs j. F .blocks c z xs (a .1 c j) in
-    let back : Blocks m bars A X′ = λ c z xs j. F′ .blocks c z xs (a .0 c j) in
-    let h = F′ .nearest X (omega arith) to q x (upto (s .2)) (a .0 q in-A) k (path-upto P (s .2)) in
-    let on = upto-within (s .2) (h .on) in
-    let g = F .nearest X′ (omega arith) back q (h .cell) (upto on) in-A (h .of) (path-upto P on) in
-    let e = one-on-path m bars S′ p L A X (F .pads-differ) v (F .count) (F .blocks) (s .1) k (s .2) (g .of) (upto-within on (g .on)) in
-    mem-at (upto-same (s .2) on (P .distinct) (h .on) (mem-at e (g .on))) (h .of)
+half m bars S S′ p w L A X A′ X′ F F′ a x k = on-one (on-path m bars S′ p L A X (F .pads-differ) v (F .count) (F .blocks) k)
+  where
+    v : Within A (p ∷ S′)
+    v c i = w c (F .inside c i)
+
+    size : length X ≡ length X′
+    size =
+        let i = same-length (F .pads-differ) (F′ .pads-differ) a in
+        let f = F .count in
+        let g = F′ .count in
+        omega arith
+
+    on-one : (q : ℕ) × Mem q (without p A) × Mem x (L .path q) → Mem x X′
+    on-one (q, j, on) = one-place (P .distinct) only on h (F .nearest X′ (sym size) back q (h .cell) (upto on′) in-A (h .of) (path-upto P on′))
+      where
+        P : Path m bars q (L .end q) (L .path q)
+        P = L .runs q (linked m bars S′ p L A X (F .pads-differ) v (F .count) (F .blocks) q j)
+
+        in-A : Mem q A
+        in-A = mem-of-without p q A j .0
+
+        to : Blocks m bars A′ X
+        to c z xs i = F .blocks c z xs (a .1 c i)
+
+        back : Blocks m bars A X′
+        back c z xs i = F′ .blocks c z xs (a .0 c i)
+
+        h : Meets X′ (upto on)
+        h = F′ .nearest X size to q x (upto on) (a .0 q in-A) k (path-upto P on)
+
+        on′ : Mem (h .cell) (L .path q)
+        on′ = upto-within on (h .on)
+
+        only : (y : ℕ) → Mem y X → Mem y (L .path q) → x ≡ y
+        only y = one-on-path m bars S′ p L A X (F .pads-differ) v (F .count) (F .blocks) j k on
 
 pub one-fence : One-fence
 one-fence m bars S S′ p w L A X A′ X′ F F′ =
