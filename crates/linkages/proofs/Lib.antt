@@ -7,3 +7,5 @@ pub mod SameMembers
 pub mod NetLists
 pub mod SearchFence
 pub mod Places
+pub mod OnBoard
+pub mod Counting

@@ -5,10 +5,10 @@ use mathlib.Core.Logic.{_⊎_, inl, inr}
 use mathlib.Core.Bool.{Bool, true, false, cond, false≢true}
 use Prim.Native.Nat.{ℕ}
 use native.Mathlib.Decide.{ℕ-discrete}
-use Rattle.boards.specs.Meaning.{Meaning}
+use Rattle.boards.specs.Meaning.{Meaning, outlets-of}
 use Rattle.linkages.specs.Lists.{Mem, here, there, Distinct, Disjoint, Next, begins, goes-on}
-use Rattle.linkages.specs.Paths.{Walk, stop, step, Path, Linkage}
-use Rattle.linkages.specs.Nets.{first-of, pads-of, Wiring, last-in, Nets-link}
+use Rattle.linkages.specs.Paths.{Landing, Unbarred, Walk, stop, step, Path, Linkage}
+use Rattle.linkages.specs.Nets.{first-of, pads-of, Wiring, OffNets, Exit, Entered, start, onward, backward, Failed, last-in, Nets-link}
 use Rattle.linkages.proofs.Members.{mem-none, mem-cases, mem-at, mem-map, same-list, distinct-picks}
 use Rattle.linkages.proofs.Walks.{walk-first, before, next-two, next-not-one}
 
@@ -164,3 +164,24 @@ last-or-next r d c (x ∷ y ∷ ys) fr k p =
     go (inl e) false q k =
         inl (let s = last-in-none r (cond (r x) x d) y ys rest q in e ∙ sym (s ∙ (rw (ap r (sym e) ∙ p))))
     go (inr h) b q k = elim (k h) [ inl e ↦ inl e | inr s ↦ inr (s .0, goes-on (s .1), s .2) ]
+
+-- ---- what a search enters
+
+-- what holds of p and stays so from a cell to the next holds of all that is entered
+pub entered-holds : {m : Meaning} {bars : List ℕ} {nets : List (List ℕ)} {p : ℕ} (P : ℕ → Type 0) → P p →
+    ((t u : ℕ) → P t → Exit nets t u → P u) →
+    ((t u v : ℕ) → P t → Exit nets t u → Unbarred bars v → Mem v (outlets-of m u) → P v) →
+    (c : ℕ) → Entered m bars nets p c → P c
+entered-holds P s b o c start = s
+entered-holds P s b o c (onward {t = t} {u = u} r e f k) = o t u c (entered-holds P s b o t r) e f k
+entered-holds P s b o c (backward {t = t} r e) = b t c (entered-holds P s b o t r) e
+
+-- a set of entered cells that holds p, that the search does not leave and that has no landing off the nets: the search failed
+pub failed-from-closed : (m : Meaning) (bars : List ℕ) (nets : List (List ℕ)) (p : ℕ) (entered : ℕ → Bool) →
+    ((c : ℕ) → entered c ≡ true → Entered m bars nets p c) → entered p ≡ true →
+    ((t u : ℕ) → entered t ≡ true → Exit nets t u → entered u ≡ true) →
+    ((t u v : ℕ) → entered t ≡ true → Exit nets t u → Unbarred bars v → Mem v (outlets-of m u) → entered v ≡ true) →
+    ((c : ℕ) → entered c ≡ true → Landing m c → OffNets nets c → ⊥) → Failed m bars nets p entered
+failed-from-closed m bars nets p entered sound s b o none =
+    let whole = entered-holds (λ c. entered c ≡ true) s b o in
+    record { sound = sound; whole = whole; no-landing = λ c r. none c (whole c r) }

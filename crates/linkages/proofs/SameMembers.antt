@@ -7,10 +7,11 @@ use lib.ListN.{length}
 use Rattle.boards.specs.Meaning.{Meaning}
 use Rattle.linkages.specs.Lists.{Mem, Within, Same, Distinct}
 use Rattle.linkages.specs.Paths.{Landing, Path}
-use Rattle.linkages.specs.Fences.{Blocks, Fence, Fence-by-members}
+use Rattle.linkages.specs.Fences.{Blocks, Fence, Fence-by-members, Fence-for-fewer, Fences-agree}
 use Rattle.linkages.proofs.Members.{meets-more}
 use Rattle.linkages.proofs.Pigeons.{same-length}
 use Rattle.linkages.proofs.Fewer.{path-fewer-bars}
+use Rattle.linkages.proofs.OneFence.{one-fence}
 
 -- more bars, fewer pads and more cells keep it blocked
 pub blocks-more : (m : Meaning) (bars bars′ A A′ X X′ : List ℕ) → Within bars bars′ → Within A′ A → Within X X′ →
@@ -37,3 +38,21 @@ fence-by-members m bars bars′ S S′ A A′ X X′ t s a x da dx F =
           (F .nearest Y (omega arith) (blocks-more m bars′ bars A′ A Y Y (t .1) (a .0) (same Y) b) c y xs (a .1 c k) i
           (path-fewer-bars (t .0) P));
     }
+
+pub fence-for-fewer : Fence-for-fewer
+fence-for-fewer m bars S S′ A X w v F = record {
+  pads-differ = F .pads-differ;
+  cells-differ = F .cells-differ;
+  inside = w;
+  count = F .count;
+  cells-unbarred = F .cells-unbarred;
+  blocks = F .blocks;
+  fewest = λ B Y d i. F .fewest B Y d (λ c k. v c (i c k));
+  nearest = F .nearest;
+}
+
+pub fences-agree : Fences-agree
+fences-agree m bars bars′ S S′ R p b s w L A X A′ X′ F F′ =
+    let same : (ys : List ℕ) → Same ys ys = λ ys. (λ c k. k, λ c k. k) in
+    one-fence m bars S R p w L A X A′ X′ F
+    (fence-by-members m bars′ bars S′ S A′ A′ X′ X′ (b .1, b .0) (s .1, s .0) (same A′) (same X′) (F′ .pads-differ) (F′ .cells-differ) F′)

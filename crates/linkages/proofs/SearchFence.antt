@@ -11,10 +11,10 @@ use Rattle.boards.specs.Meaning.{Meaning, outlets-of}
 use Rattle.linkages.specs.Lists.{Mem, here, there, Within, Same, Distinct, Meets, Next}
 use Rattle.linkages.specs.Paths.{Landing, Unbarred, Walk, stop, step, Path, Linkage}
 use Rattle.linkages.specs.Fences.{Blocks, Fence}
-use Rattle.linkages.specs.Nets.{first-of, pads-of, Wiring, OffNets, Exit, off-nets, along, Entered, start, onward, backward, Trapped, last-in, fence-pads, fence-cells, Last-entered, Shows, Search-fences, Shown-fences, The-fence}
+use Rattle.linkages.specs.Nets.{first-of, pads-of, Wiring, OffNets, Exit, off-nets, along, Entered, start, onward, backward, Trapped, last-in, fence-pads, fence-cells, Last-entered, Shows, Trapped-cannot-be-met, Search-fences, Shown-fences, The-fence}
 use Rattle.linkages.proofs.Members.{mem-cases, mem-at, dec-meets, held-or-not, without, mem-of-without, mem-kept, mem-of-kept, distinct-kept, disjoint-kept, length-kept-map, mem-map, mem-of-map, distinct-picks}
 use Rattle.linkages.proofs.Walks.{walk-first, walk-unbarred, before, before-within, before-not-from, from, from-within, walk-from, loopless, graft}
-use Rattle.linkages.proofs.OneFence.{holds-p, linked, on-path, one-on-path, one-fence}
+use Rattle.linkages.proofs.OneFence.{holds-p, linked, on-path, one-on-path, no-linkage, one-fence}
 use Rattle.linkages.proofs.SameMembers.{fence-by-members}
 use Rattle.linkages.proofs.NetLists.{net-of, net-of-mem, first-on, same-net, net-of-first, pads-differ, nets-link, next-right, next-left, next-before, next-before-more, Passes-front, first-passes, last-in-mem, last-in-passes, last-in-last, last-or-next}
 
@@ -279,6 +279,12 @@ module _ (m : Meaning) (bars : List ℕ) (nets : List (List ℕ)) (p : ℕ) (ent
 
 pub search-fences : Search-fences
 search-fences m bars nets p entered T = fence m bars nets p entered T
+
+pub trapped-cannot-be-met : Trapped-cannot-be-met
+trapped-cannot-be-met m bars nets p entered T =
+    let S = p ∷ pads-of nets in
+    let F = search-fences m bars nets p entered T in
+    no-linkage m bars S (fence-pads nets p entered) (fence-cells nets entered) S F (F .inside)
 
 pub shown-fences : Shown-fences
 shown-fences m bars nets p entered T = shown m bars nets p entered T

@@ -51,3 +51,12 @@ One-fence = (m : Meaning) (bars S S′ : List ℕ) (p : ℕ) → Within S (p ∷
 abbrev pub Fence-by-members : Type 0
 Fence-by-members = (m : Meaning) (bars bars′ S S′ A A′ X X′ : List ℕ) → Same bars bars′ → Same S S′ → Same A A′ → Same X X′ →
     Distinct A′ → Distinct X′ → Fence m bars S A X → Fence m bars′ S′ A′ X′
+
+-- a fence for some pads is one for fewer of them, as long as the shown ones are left
+abbrev pub Fence-for-fewer : Type 0
+Fence-for-fewer = (m : Meaning) (bars S S′ A X : List ℕ) → Within A S′ → Within S′ S → Fence m bars S A X → Fence m bars S′ A X
+
+-- so fences for the same pads under the same bars, in whatever order these are listed, show the same pads and the same cells
+abbrev pub Fences-agree : Type 0
+Fences-agree = (m : Meaning) (bars bars′ S S′ R : List ℕ) (p : ℕ) → Same bars bars′ → Same S S′ → Within S (p ∷ R) → CanBeMet m bars R →
+    (A X A′ X′ : List ℕ) → Fence m bars S A X → Fence m bars′ S′ A′ X′ → Same A A′ × Same X X′

@@ -1,4 +1,4 @@
-use Rattle.linkages.proofs.Places.{paths-stay-on-board}
+use Rattle.linkages.proofs.OnBoard.{paths-stay-on-board}
 use Rattle.linkages.proofs.paths.paths_stay_on_board_stands.Needs as need
 
 pub returns : need.returns
