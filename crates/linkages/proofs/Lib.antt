@@ -9,3 +9,4 @@ pub mod SearchFence
 pub mod Places
 pub mod OnBoard
 pub mod Counting
+pub mod WorkedBoards

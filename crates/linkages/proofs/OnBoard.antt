@@ -12,7 +12,7 @@ use Rattle.linkages.proofs.Members.{mem-none}
 use Rattle.linkages.proofs.Places.{has-from-mem}
 
 -- what is marked is below the length
-marked-below : (marks : List Bool) (c : ℕ) → getD marks c false ≡ true → c < length marks
+pub marked-below : (marks : List Bool) (c : ℕ) → getD marks c false ≡ true → c < length marks
 marked-below [] c e = absurd (false≢true e)
 marked-below (x ∷ marks) zero e = omega arith
 marked-below (x ∷ marks) (suc c) e = let h = marked-below marks c e in omega arith
