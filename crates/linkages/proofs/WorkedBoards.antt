@@ -6,6 +6,7 @@ use mathlib.Core.Bool.{Bool, true, false, false≢true}
 use Prim.Native.Nat.{ℕ, zero, suc, _≤_, _<_}
 use native.Mathlib.Omega.{arith}
 use lib.ListN.{length, getD}
+use Rattle.std.specs.Orderings.{Decides}
 use Rattle.boards.specs.Meaning.{Meaning, Bounded, outlets-of, landing-at}
 use Rattle.linkages.specs.Lists.{Mem, here, there, Within, Same, Distinct, Disjoint, Next, begins, goes-on}
 use Rattle.linkages.specs.Paths.{Landing, Unbarred, Walk, stop, step, Path, CanBeMet, Lands-once}
@@ -382,3 +383,28 @@ line-trapped = record {
 
 pub line-example : Line-example
 line-example = record { trapped = line-trapped; fence = search-fences line [] line-nets 1 (marked line-marks) line-trapped }
+
+-- ---- the one cell, or the one pad, of a fence
+
+-- a test that tells whether c is d tells what holds of d and of nothing else
+decided-by-one : (P : ℕ → Type 0) (r : Bool) (c d : ℕ) → P d → (P c → c ≡ d) → (r ≡ true → c ≡ d) → (c ≡ d → r ≡ true) → Decides r (P c)
+decided-by-one P r c d h one to back = (λ e. subst P (sym (to e)) h, λ k. back (one k))
+
+pub fences-row-decided : (r : Bool) (c : ℕ) → (r ≡ true → c ≡ 5) → (c ≡ 5 → r ≡ true) →
+    Decides r (Fence row [] (0 ∷ 1 ∷ []) (0 ∷ 1 ∷ []) (c ∷ []))
+fences-row-decided r c =
+    decided-by-one (λ x. Fence row [] (0 ∷ 1 ∷ []) (0 ∷ 1 ∷ []) (x ∷ [])) r c 5 (row-example .fence)
+    (λ F. mem-one (row-example .no-other (0 ∷ 1 ∷ []) (c ∷ []) F .1 .0 c (here refl)))
+
+pub shut-in-barred-row-decided : (r : Bool) (q : ℕ) → (r ≡ true → q ≡ 0) → (q ≡ 0 → r ≡ true) →
+    Decides r (Fence row (4 ∷ []) (0 ∷ 1 ∷ []) (q ∷ []) [])
+unfolding two-marks
+shut-in-barred-row-decided r q =
+    decided-by-one (λ x. Fence row (4 ∷ []) (0 ∷ 1 ∷ []) (x ∷ []) []) r q 0 (barred-row-example .fence)
+    (λ F. mem-one (the-fence row (4 ∷ []) row-nets 0 (marked two-marks) barred-trapped (q ∷ []) [] F .0 .0 q (here refl)))
+
+pub fences-line-decided : (r : Bool) (c : ℕ) → (r ≡ true → c ≡ 1) → (c ≡ 1 → r ≡ true) →
+    Decides r (Fence line [] (1 ∷ 0 ∷ []) (1 ∷ 0 ∷ []) (c ∷ []))
+fences-line-decided r c =
+    decided-by-one (λ x. Fence line [] (1 ∷ 0 ∷ []) (1 ∷ 0 ∷ []) (x ∷ [])) r c 1 (line-example .fence)
+    (λ F. mem-one (the-fence line [] line-nets 1 (marked line-marks) line-trapped (1 ∷ 0 ∷ []) (c ∷ []) F .1 .0 c (here refl)))

@@ -1,5 +1,6 @@
 // Worked examples on small boards: what the theorems ask for is met there, and the fences are what they should be.
 ghost use mathlib.Core.List.{[], _∷_};
+ghost use Rattle.std.specs.Orderings.{Decides};
 ghost use Rattle.linkages.specs.Fences.{Fence};
 ghost use Rattle.linkages.specs.Examples.{row, Row-example, Barred-row-example, Lone-example, line, Line-example};
 
@@ -31,23 +32,23 @@ pub fn line_example_stands() -> u8
     0
 }
 
-// The cell of the row's fence: the landing.
-pub fn row_fence_cell() -> u8
-    ensures { λ r. ⌜ Fence row [] (0 ∷ 1 ∷ []) (0 ∷ 1 ∷ []) (r ∷ []) ⌝ }
+// Whether cell `c` is the fence of the row's two pads: only the landing is.
+pub fn fences_row(c: u16) -> bool
+    ensures { λ r. ⌜ Decides r (Fence row [] (0 ∷ 1 ∷ []) (0 ∷ 1 ∷ []) (c ∷ [])) ⌝ }
 {
-    5
+    c == 5
 }
 
-// The pad behind the fence of the barred row, the fewest that there can be: pad 1 is to be met too, and is not shown.
-pub fn barred_row_fence_pad() -> u8
-    ensures { λ r. ⌜ Fence row (4 ∷ []) (0 ∷ 1 ∷ []) (r ∷ []) [] ⌝ }
+// Whether pad `p` alone is behind the fence of the barred row: only pad 0 is, though pad 1 is to be met too.
+pub fn shut_in_barred_row(p: u16) -> bool
+    ensures { λ r. ⌜ Decides r (Fence row (4 ∷ []) (0 ∷ 1 ∷ []) (p ∷ []) []) ⌝ }
 {
-    0
+    p == 0
 }
 
-// The cell of the line's fence: the nearest that blocks both pads, though the landing 2 blocks them too.
-pub fn line_fence_cell() -> u8
-    ensures { λ r. ⌜ Fence line [] (1 ∷ 0 ∷ []) (1 ∷ 0 ∷ []) (r ∷ []) ⌝ }
+// Whether cell `c` is the fence of the line's two pads: cell 1 is, the nearest; the landing 2 blocks them too, and is not.
+pub fn fences_line(c: u16) -> bool
+    ensures { λ r. ⌜ Decides r (Fence line [] (1 ∷ 0 ∷ []) (1 ∷ 0 ∷ []) (c ∷ [])) ⌝ }
 {
-    1
+    c == 1
 }

@@ -1,5 +1,0 @@
-use Rattle.linkages.proofs.WorkedBoards.{barred-row-example}
-use Rattle.linkages.proofs.examples.barred_row_fence_pad.Needs as need
-
-pub returns : need.returns
-returns c = barred-row-example .fence

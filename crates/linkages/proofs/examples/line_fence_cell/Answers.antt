@@ -1,5 +1,0 @@
-use Rattle.linkages.proofs.WorkedBoards.{line-example}
-use Rattle.linkages.proofs.examples.line_fence_cell.Needs as need
-
-pub returns : need.returns
-returns c = line-example .fence

@@ -1,5 +1,0 @@
-use Rattle.linkages.proofs.WorkedBoards.{row-example}
-use Rattle.linkages.proofs.examples.row_fence_cell.Needs as need
-
-pub returns : need.returns
-returns c = row-example .fence
