@@ -8,13 +8,13 @@ use native.Mathlib.Decide.{decLt}
 use lib.ListN.{length, getD, replicate, getD-replicate}
 use Rattle.std.specs.Orderings.{Decides}
 use Rattle.std.specs.Iters.{counting}
-use Rattle.std.proofs.shelf.Counted.{length-counting, getD-counting}
+use Rattle.std.proofs.shelf.Counted.{length-counting}
 use Rattle.boards.specs.Meaning.{Meaning}
-use Rattle.linkages.specs.Lists.{Mem, here, Within, Distinct}
+use Rattle.linkages.specs.Lists.{Mem, Within}
 use Rattle.linkages.specs.Paths.{Landing, stop, Path, Linkage}
 use Rattle.linkages.specs.Fences.{Blocks, Too-few-cells}
-use Rattle.linkages.proofs.Members.{mem-none, mem-one, mem-at}
-use Rattle.linkages.proofs.Places.{mem-getD, has-from-mem, distinct-from}
+use Rattle.linkages.proofs.Members.{mem-none, mem-one}
+use Rattle.linkages.proofs.Places.{below-from-counting, counting-from-below, distinct-counting}
 use Rattle.linkages.proofs.Walks.{walk-first}
 use Rattle.linkages.proofs.OneFence.{too-few-cells}
 
@@ -22,43 +22,21 @@ use Rattle.linkages.proofs.OneFence.{too-few-cells}
 all-landings : ℕ → Meaning
 all-landings n = record { cells = n; outlets = []; pads = []; landings = replicate n true }
 
-below : (n c : ℕ) → Mem c (counting 0 n) → c < n
-below n c k =
-    let h = has-from-mem (counting 0 n) c k in
-    let l = length-counting 0 n in
-    let i : h .0 < n = omega (arith, h .1) in
-    let e = h .2 0 in
-    let f = getD-counting 0 n (h .0) 0 i in
-    omega arith
-
-counted : (n c : ℕ) → c < n → Mem c (counting 0 n)
-counted n c h =
-    let l = length-counting 0 n in
-    let e = getD-counting 0 n c 0 h in
-    mem-at (omega arith) (mem-getD (counting 0 n) c 0 (omega arith))
-
-counting-distinct : (n : ℕ) → Distinct (counting 0 n)
-counting-distinct n = distinct-from (counting 0 n) (λ i j l k e.
-    let h = length-counting 0 n in
-    let f = getD-counting 0 n i 0 (omega arith) in
-    let g = getD-counting 0 n j 0 (omega arith) in
-    omega arith)
-
 linkage : (n : ℕ) → Linkage (all-landings n) [] (counting 0 n)
 unfolding all-landings
 linkage n = record {
   path = λ q. q ∷ [];
   end = λ q. q;
   runs = λ q k. record { walk = stop mem-none refl; distinct = (mem-none, tt) };
-  lands = λ q k. getD-replicate n q true _ (below n q k);
+  lands = λ q k. getD-replicate n q true _ (below-from-counting n q k);
   apart = λ q r c _ _ i j. sym (mem-one i) ∙ mem-one j;
 }
 
 -- as many cells as pads or more show nothing
 many-cells : (k n : ℕ) → n ≤ k → Too-few-cells k n → ⊥
 many-cells k n l h =
-    let within : Within (counting 0 n) (counting 0 k) = λ c i. let j = below n c i in counted k c (omega arith) in
-    h (all-landings n) [] (counting 0 n) (counting 0 k) (counting 0 n) (counting-distinct n) (length-counting 0 k) (length-counting 0 n)
+    let within : Within (counting 0 n) (counting 0 k) = λ c i. let j = below-from-counting n c i in counting-from-below k c (omega arith) in
+    h (all-landings n) [] (counting 0 n) (counting 0 k) (counting 0 n) (distinct-counting n) (length-counting 0 k) (length-counting 0 n)
     (λ a z xs i P _. record { cell = a; of = within a i; on = walk-first (P .walk) }) (λ c i. i) (linkage n)
 
 pub decided-by-count : (r : Bool) (k n : ℕ) → (r ≡ true → k < n) → (k < n → r ≡ true) → Decides r (Too-few-cells k n)

@@ -5,11 +5,13 @@ use mathlib.Core.Logic.{_⊎_, inl, inr}
 use mathlib.Core.Bool.{Bool, true, false, cond, false≢true}
 use Prim.Native.Nat.{ℕ}
 use native.Mathlib.Decide.{ℕ-discrete}
+use Rattle.std.specs.shelf.Lists.{kept-by}
 use Rattle.boards.specs.Meaning.{Meaning, outlets-of}
 use Rattle.linkages.specs.Lists.{Mem, here, there, Distinct, Disjoint, Next, begins, goes-on}
 use Rattle.linkages.specs.Paths.{Landing, Unbarred, Walk, stop, step, Path, Linkage}
 use Rattle.linkages.specs.Nets.{first-of, pads-of, Wiring, OffNets, Exit, Entered, start, onward, backward, Failed, last-in, Nets-link}
-use Rattle.linkages.proofs.Members.{mem-none, mem-cases, mem-at, mem-map, same-list, distinct-picks}
+use Rattle.linkages.proofs.Members.{mem-none, mem-cases, mem-at, mem-of-kept, disjoint-kept, mem-map, same-list, distinct-picks}
+use Rattle.linkages.proofs.Fewer.{path-under}
 use Rattle.linkages.proofs.Walks.{walk-first, before, next-two, next-not-one}
 
 -- ---- nets by their pads
@@ -62,6 +64,27 @@ nets-link m bars nets Q = record {
       let h = net-of-mem nets w k in
       let g = net-of-mem nets v l in
       h .1 ∙ (ap first-of (same-net m bars nets Q (h .0) (g .0) i j) ∙ sym (g .1));
+}
+
+-- the nets that pass a test
+pub wiring-kept : {m : Meaning} {bars : List ℕ} {nets : List (List ℕ)} (r : List ℕ → Bool) → Wiring m bars nets → Wiring m bars (kept-by r nets)
+wiring-kept {nets = nets} r Q = record {
+  disjoint = disjoint-kept r nets (Q .disjoint);
+  end = Q .end;
+  runs = λ xs k. Q .runs xs (mem-of-kept r xs nets k .0);
+  lands = λ xs k. Q .lands xs (mem-of-kept r xs nets k .0);
+  lands-once = λ xs k. Q .lands-once xs (mem-of-kept r xs nets k .0);
+}
+
+-- the nets under other bars, none of them on a net
+pub wiring-under : {m : Meaning} {bars bars′ : List ℕ} {nets : List (List ℕ)} → ((c : ℕ) → Mem c bars′ → OffNets nets c) →
+    Wiring m bars nets → Wiring m bars′ nets
+wiring-under off Q = record {
+  disjoint = Q .disjoint;
+  end = Q .end;
+  runs = λ xs k. path-under (λ c i b. off c b xs k i) (Q .runs xs k);
+  lands = Q .lands;
+  lands-once = Q .lands-once;
 }
 
 -- ---- neighbours on a net

@@ -1,4 +1,4 @@
--- Membership, distinctness, neighbours and walks by places.
+-- Membership, distinctness, neighbours and walks by places, and the list of the cells below n.
 use mathlib.Core.Path.{_≡_, refl, sym}
 use mathlib.Core.List.{List, [], _∷_}
 use Prim.Native.Nat.{ℕ, zero, suc, _+_, _-_, _<_}
@@ -6,7 +6,9 @@ use native.Mathlib.Nat.{not-suc-le-zero}
 use native.Mathlib.Numerals.{add-one}
 use native.Mathlib.Omega.{arith}
 use lib.ListN.{length, getD}
+use Rattle.std.specs.Iters.{counting}
 use Rattle.std.specs.shelf.Lists.{Has}
+use Rattle.std.proofs.shelf.Counted.{length-counting, getD-counting}
 use Rattle.boards.specs.Meaning.{Meaning, outlets-of}
 use Rattle.linkages.specs.Lists.{Mem, here, there, Distinct, Next, begins, goes-on}
 use Rattle.linkages.specs.Paths.{Unbarred, Walk, stop, step}
@@ -76,3 +78,27 @@ by-places = record {
   next-at = λ xs u t n. let h = next-at xs u t n in (h .0, omega (arith, h .1), h .2, rw add-one (h .3));
   walk-from = walk-at;
 }
+
+-- ---- the cells below n
+
+pub below-from-counting : (n c : ℕ) → Mem c (counting 0 n) → c < n
+below-from-counting n c k =
+    let h = has-from-mem (counting 0 n) c k in
+    let l = length-counting 0 n in
+    let i : h .0 < n = omega (arith, h .1) in
+    let e = h .2 0 in
+    let f = getD-counting 0 n (h .0) 0 i in
+    omega arith
+
+pub counting-from-below : (n c : ℕ) → c < n → Mem c (counting 0 n)
+counting-from-below n c h =
+    let l = length-counting 0 n in
+    let e = getD-counting 0 n c 0 h in
+    mem-at (omega arith) (mem-getD (counting 0 n) c 0 (omega arith))
+
+pub distinct-counting : (n : ℕ) → Distinct (counting 0 n)
+distinct-counting n = distinct-from (counting 0 n) (λ i j l k e.
+    let h = length-counting 0 n in
+    let f = getD-counting 0 n i 0 (omega arith) in
+    let g = getD-counting 0 n j 0 (omega arith) in
+    omega arith)
