@@ -67,7 +67,8 @@ nets-link m bars nets Q = record {
 }
 
 -- the nets that pass a test
-pub wiring-kept : {m : Meaning} {bars : List ℕ} {nets : List (List ℕ)} (r : List ℕ → Bool) → Wiring m bars nets → Wiring m bars (kept-by r nets)
+pub wiring-kept : {m : Meaning} {bars : List ℕ} {nets : List (List ℕ)} (r : List ℕ → Bool) → Wiring m bars nets →
+    Wiring m bars (kept-by r nets)
 wiring-kept {nets = nets} r Q = record {
   disjoint = disjoint-kept r nets (Q .disjoint);
   end = Q .end;

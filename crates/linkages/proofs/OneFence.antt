@@ -9,7 +9,8 @@ use Rattle.boards.specs.Meaning.{Meaning}
 use Rattle.linkages.specs.Lists.{Mem, here, there, Within, Same, Distinct, Meets}
 use Rattle.linkages.specs.Paths.{Landing, Path, Linkage, CanBeMet}
 use Rattle.linkages.specs.Fences.{Blocks, Fence, Too-few-cells, No-linkage, One-fence}
-use Rattle.linkages.proofs.Members.{mem-cases, mem-at, dec-mem, without, mem-of-without, length-without-ge, distinct-without, mem-map, mem-of-map}
+use Rattle.linkages.proofs.Members.{mem-cases, mem-at, dec-mem, without, mem-of-without, length-without-ge, distinct-without, mem-map}
+use Rattle.linkages.proofs.Members.{mem-of-map}
 use Rattle.linkages.proofs.Pigeons.{disjoint-paths, at-most-pads, Tight, tight-on, tight-one, same-length}
 use Rattle.linkages.proofs.Walks.{upto, upto-within, upto-same, path-upto}
 use Rattle.linkages.proofs.Fewer.{linkage-for-less}
@@ -90,7 +91,7 @@ half m bars S S′ p w L A X A′ X′ F F′ a x k = on-one (on-path m bars S�
         omega arith
 
     on-one : (q : ℕ) × Mem q (without p A) × Mem x (L .path q) → Mem x X′
-    on-one (q, j, on) = one-place (P .distinct) only on h (F .nearest X′ (sym size) back q (h .cell) (upto on′) in-A (h .of) (path-upto P on′))
+    on-one (q, j, on) = one-place (P .distinct) only on h g
       where
         P : Path m bars q (L .end q) (L .path q)
         P = L .runs q (linked m bars S′ p L A X (F .pads-differ) v (F .count) (F .blocks) q j)
@@ -109,6 +110,9 @@ half m bars S S′ p w L A X A′ X′ F F′ a x k = on-one (on-path m bars S�
 
         on′ : Mem (h .cell) (L .path q)
         on′ = upto-within on (h .on)
+
+        g : Meets X (upto on′)
+        g = F .nearest X′ (sym size) back q (h .cell) (upto on′) in-A (h .of) (path-upto P on′)
 
         only : (y : ℕ) → Mem y X → Mem y (L .path q) → x ≡ y
         only y = one-on-path m bars S′ p L A X (F .pads-differ) v (F .count) (F .blocks) j k on

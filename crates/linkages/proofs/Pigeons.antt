@@ -8,7 +8,8 @@ use native.Mathlib.Decide.{ℕ-discrete}
 use lib.ListN.{length, length-map}
 use Rattle.linkages.specs.Lists.{Mem, here, there, Within, Same, Distinct, Meets, Disjoint}
 use Rattle.linkages.specs.Fences.{Pigeonhole}
-use Rattle.linkages.proofs.Members.{mem-none, mem-cases, mem-one, mem-at, mem-each, dec-meets, without, mem-without, length-without, mem-of-map, same-list}
+use Rattle.linkages.proofs.Members.{mem-none, mem-cases, mem-one, mem-at, mem-each, dec-meets, without, mem-without, length-without}
+use Rattle.linkages.proofs.Members.{mem-of-map, same-list}
 
 meets-without : {X xs : List ℕ} (y : ℕ) → Meets X xs → (Mem y xs → ⊥) → Meets (without y X) xs
 meets-without {X} y h n = record { cell = h .cell; of = mem-without X (h .of) (λ e. n (mem-at (sym e) (h .on))); on = h .on }

@@ -11,12 +11,18 @@ use Rattle.boards.specs.Meaning.{Meaning, outlets-of}
 use Rattle.linkages.specs.Lists.{Mem, here, there, Within, Same, Distinct, Meets, Next}
 use Rattle.linkages.specs.Paths.{Landing, Unbarred, Walk, stop, step, Path, Linkage}
 use Rattle.linkages.specs.Fences.{Blocks, Fence}
-use Rattle.linkages.specs.Nets.{first-of, pads-of, Wiring, OffNets, Exit, off-nets, along, Entered, start, onward, backward, Trapped, last-in, fence-pads, fence-cells, Last-entered, Shows, Trapped-cannot-be-met, Search-fences, Shown-fences, The-fence}
-use Rattle.linkages.proofs.Members.{mem-cases, mem-at, dec-meets, held-or-not, without, mem-of-without, mem-kept, mem-of-kept, distinct-kept, disjoint-kept, length-kept-map, mem-map, mem-of-map, distinct-picks}
-use Rattle.linkages.proofs.Walks.{walk-first, walk-unbarred, before, before-within, before-not-from, from, from-within, walk-from, loopless, graft}
+use Rattle.linkages.specs.Nets.{first-of, pads-of, Wiring, OffNets, Exit, off-nets, along, Entered, start, onward, backward, Trapped}
+use Rattle.linkages.specs.Nets.{last-in, fence-pads, fence-cells, Last-entered, Shows, Trapped-cannot-be-met, Search-fences, Shown-fences}
+use Rattle.linkages.specs.Nets.{The-fence}
+use Rattle.linkages.proofs.Members.{mem-cases, mem-at, dec-meets, held-or-not, without, mem-of-without, mem-kept, mem-of-kept}
+use Rattle.linkages.proofs.Members.{distinct-kept, disjoint-kept, length-kept-map, mem-map, mem-of-map, distinct-picks}
+use Rattle.linkages.proofs.Walks.{walk-first, walk-unbarred, before, before-within, before-not-from, from, from-within, walk-from}
+use Rattle.linkages.proofs.Walks.{loopless, graft}
 use Rattle.linkages.proofs.OneFence.{holds-p, linked, on-path, one-on-path, no-linkage, one-fence}
 use Rattle.linkages.proofs.SameMembers.{fence-by-members}
-use Rattle.linkages.proofs.NetLists.{net-of, net-of-mem, first-on, same-net, net-of-first, pads-differ, nets-link, next-right, next-left, next-before, next-before-more, Passes-front, first-passes, last-in-mem, last-in-passes, last-in-last, last-or-next}
+use Rattle.linkages.proofs.NetLists.{net-of, net-of-mem, first-on, same-net, net-of-first, pads-differ, nets-link, next-right, next-left}
+use Rattle.linkages.proofs.NetLists.{next-before, next-before-more, Passes-front, first-passes, last-in-mem, last-in-passes, last-in-last}
+use Rattle.linkages.proofs.NetLists.{last-or-next}
 
 -- each walk from t to a landing meets Y
 abbrev Shut : Meaning → List ℕ → List ℕ → ℕ → Type 0
@@ -169,7 +175,8 @@ module _ (m : Meaning) (bars : List ℕ) (nets : List (List ℕ)) (p : ℕ) (ent
         laid = h .0;
         on = mem-at (t .2) (cell-on xs (h .0));
         came = ap entered (t .2) ∙ last-in-passes entered (first-of xs) xs (h .1);
-        no-further = λ u n. last-in-last entered (first-of xs) u xs (T .wiring .runs xs (h .0) .distinct) (subst (λ (s : ℕ). Next s u xs) (t .2) n);
+        no-further = λ u n. last-in-last entered (first-of xs) u xs (T .wiring .runs xs (h .0) .distinct)
+            (subst (λ (s : ℕ). Next s u xs) (t .2) n);
       }
 
   -- an entered cell that is none of the fence's: on no net, or one with a next that is entered
@@ -218,7 +225,9 @@ module _ (m : Meaning) (bars : List ℕ) (nets : List (List ℕ)) (p : ℕ) (ent
   blocked a z xs k P l = elim (meets-or-enters k P) [ inl h ↦ h | inr h ↦ absurd (no-way z l h) ]
 
   differ : Distinct A
-  differ = (λ k. T .unwired (mem-of-kept entered p (pads-of nets) k .0), distinct-kept entered (pads-of nets) (pads-differ m bars nets (T .wiring)))
+  differ =
+      let d = pads-differ m bars nets (T .wiring) in
+      (λ k. T .unwired (mem-of-kept entered p (pads-of nets) k .0), distinct-kept entered (pads-of nets) d)
 
   inside : Within A (p ∷ pads-of nets)
   inside c (here e) = here e
@@ -273,9 +282,11 @@ module _ (m : Meaning) (bars : List ℕ) (nets : List (List ℕ)) (p : ℕ) (ent
   shown : (A′ X′ : List ℕ) → Shows nets p entered A′ X′ → Fence m bars (p ∷ pads-of nets) A′ X′
   shown A′ X′ W =
       let S = p ∷ pads-of nets in
-      let a : Same A A′ = (λ c k. W .pads-all c (inside c k) (T .failed .whole c (pad-entered c k)), λ c k. let h = W .pads-only c k in pads-from c (h .0) (h .1)) in
+      let to : Within A A′ = λ c k. W .pads-all c (inside c k) (T .failed .whole c (pad-entered c k)) in
+      let back : Within A′ A = λ c k. let h = W .pads-only c k in pads-from c (h .0) (h .1) in
       let x : Same X X′ = (λ c k. W .cells-all c (cells-to c k), λ c k. cells-from c (W .cells-only c k)) in
-      fence-by-members m bars bars S S A A′ X X′ (λ c k. k, λ c k. k) (λ c k. k, λ c k. k) a x (W .pads-differ) (W .cells-differ) fence
+      fence-by-members m bars bars S S A A′ X X′ (λ c k. k, λ c k. k) (λ c k. k, λ c k. k) (to, back) x (W .pads-differ)
+      (W .cells-differ) fence
 
 pub search-fences : Search-fences
 search-fences m bars nets p entered T = fence m bars nets p entered T

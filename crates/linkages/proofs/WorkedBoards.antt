@@ -11,7 +11,8 @@ use Rattle.boards.specs.Meaning.{Meaning, Bounded, outlets-of, landing-at}
 use Rattle.linkages.specs.Lists.{Mem, here, there, Within, Same, Distinct, Disjoint, Next, begins, goes-on}
 use Rattle.linkages.specs.Paths.{Landing, Unbarred, Walk, stop, step, Path, CanBeMet, Lands-once}
 use Rattle.linkages.specs.Fences.{Fence}
-use Rattle.linkages.specs.Nets.{first-of, Wiring, OffNets, Exit, off-nets, along, Entered, start, onward, backward, Failed, Trapped, Last-entered, Shows}
+use Rattle.linkages.specs.Nets.{first-of, Wiring, OffNets, Exit, off-nets, along, Entered, start, onward, backward, Failed, Trapped}
+use Rattle.linkages.specs.Nets.{Last-entered, Shows}
 use Rattle.linkages.specs.Examples.{marked, row, row-nets, Row-example, Barred-row-example, lone, Lone-example, line, Line-example}
 use Rattle.linkages.proofs.Members.{mem-none, mem-cases, mem-one, mem-at, mem-each}
 use Rattle.linkages.proofs.Walks.{next-two, next-not-one}
@@ -41,7 +42,8 @@ distinct-three : (x y z : ℕ) → (x ≡ y → ⊥) → (x ≡ z → ⊥) → (
 distinct-three x y z a b c = (λ k. elim (mem-two k) [ inl e ↦ a e | inr e ↦ b e ], (λ k. c (mem-one k), (mem-none, tt)))
 
 -- one net of three cells, of which the last is a landing, is a wiring
-wiring-three : (m : Meaning) (bars : List ℕ) (x y z : ℕ) → Path m bars x z (x ∷ y ∷ z ∷ []) → Landing m z → (Landing m x → ⊥) → (Landing m y → ⊥) →
+wiring-three : (m : Meaning) (bars : List ℕ) (x y z : ℕ) → Path m bars x z (x ∷ y ∷ z ∷ []) → Landing m z →
+    (Landing m x → ⊥) → (Landing m y → ⊥) →
     Wiring m bars ((x ∷ y ∷ z ∷ []) ∷ [])
 wiring-three m bars x y z P l nx ny = record {
   disjoint = (λ ys c k. absurd (mem-none k), tt);
@@ -227,7 +229,8 @@ pub row-example : Row-example
 unfolding all-six
 row-example = record {
   bounded = row-bounded;
-  walk = step mem-none (there (here refl)) (step mem-none (there (here refl)) (step mem-none (here refl) (step mem-none (here refl) (stop mem-none refl))));
+  walk = step mem-none (there (here refl))
+      (step mem-none (there (here refl)) (step mem-none (here refl) (step mem-none (here refl) (stop mem-none refl))));
   path = row-path [] mem-none mem-none mem-none;
   lands = refl;
   apart = (
@@ -371,7 +374,8 @@ line-trapped = record {
     on-net (suc zero) h = there (here refl)
     on-net (suc (suc t)) h = absurd (false≢true h)
 
-    on : (t u v : ℕ) → marked line-marks t ≡ true → Exit line-nets t u → Unbarred [] v → Mem v (outlets-of line u) → marked line-marks v ≡ true
+    on : (t u v : ℕ) → marked line-marks t ≡ true → Exit line-nets t u → Unbarred [] v → Mem v (outlets-of line u) →
+        marked line-marks v ≡ true
     on t u v h (off-nets n e) f k = absurd (n (0 ∷ 1 ∷ 2 ∷ []) (here refl) (on-net t h))
     on t u v h (along xs i n) f k = elim (next-three (subst (Next u t) (mem-one i) n)) [
       | inl e ↦ has-mark line-marks (mem-one (subst (λ (s : ℕ). Mem v (outlets-of line s)) (e .0) k)) refl

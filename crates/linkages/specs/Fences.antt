@@ -22,7 +22,8 @@ pub record Fence (m : Meaning) (bars S A X : List ℕ) : Type 0 where
   pub blocks : Blocks m bars A X
   -- the fewest pads: if j cells block some j + 1 of the pads to be met, the shown pads are all among those
   pub fewest : (A′ X′ : List ℕ) → Distinct A′ → Within A′ S → length A′ ≡ length X′ + 1 → Blocks m bars A′ X′ → Within A A′
-  -- the nearest cells: if others, as many, block the shown pads too, each unbarred path from a shown pad to one of those meets a shown cell
+  -- the nearest cells: if others, as many, block the shown pads too, each unbarred path from a shown pad to one of
+  -- those meets a shown cell
   pub nearest : (X′ : List ℕ) → length X′ ≡ length X → Blocks m bars A X′ →
       (a x : ℕ) (xs : List ℕ) → Mem a A → Mem x X′ → Path m bars a x xs → Meets X xs
 
