@@ -1,18 +1,18 @@
 -- Cells show that pads cannot be met exactly if there are fewer cells than pads.
-use mathlib.Core.Path.{_≡_, refl, sym, subst, _∙_}
-use mathlib.Core.List.{List, [], _∷_}
+use mathlib.Core.Path.{_≡_, refl, sym, _∙_}
+use mathlib.Core.List.{[], _∷_}
 use mathlib.Core.Bool.{Bool, true}
-use Prim.Native.Nat.{ℕ, _+_, _≤_, _<_}
+use Prim.Native.Nat.{ℕ, _≤_, _<_}
 use native.Mathlib.Omega.{arith}
 use native.Mathlib.Decide.{decLt}
-use lib.ListN.{length, getD, replicate, getD-replicate}
+use lib.ListN.{replicate, getD-replicate}
 use Rattle.std.specs.Orderings.{Decides}
 use Rattle.std.specs.Iters.{counting}
 use Rattle.std.proofs.shelf.Counted.{length-counting}
 use Rattle.boards.specs.Meaning.{Meaning}
-use Rattle.linkages.specs.Lists.{Mem, Within}
-use Rattle.linkages.specs.Paths.{Landing, stop, Path, Linkage}
-use Rattle.linkages.specs.Fences.{Blocks, Too-few-cells}
+use Rattle.linkages.specs.Lists.{Within}
+use Rattle.linkages.specs.Paths.{stop, Linkage}
+use Rattle.linkages.specs.Fences.{Too-few-cells}
 use Rattle.linkages.proofs.Members.{mem-none, mem-one}
 use Rattle.linkages.proofs.Places.{below-from-counting, counting-from-below, distinct-counting}
 use Rattle.linkages.proofs.Walks.{walk-first}

@@ -1,14 +1,14 @@
 -- Nets by their pads, and the cells of a net that pass a test.
 use mathlib.Core.Path.{_≡_, refl, sym, ap, subst, _∙_}
-use mathlib.Core.List.{List, [], _∷_, map}
+use mathlib.Core.List.{List, [], _∷_}
 use mathlib.Core.Logic.{_⊎_, inl, inr}
 use mathlib.Core.Bool.{Bool, true, false, cond, false≢true}
 use Prim.Native.Nat.{ℕ}
 use native.Mathlib.Decide.{ℕ-discrete}
 use Rattle.std.specs.shelf.Lists.{kept-by}
 use Rattle.boards.specs.Meaning.{Meaning, outlets-of}
-use Rattle.linkages.specs.Lists.{Mem, here, there, Distinct, Disjoint, Next, begins, goes-on}
-use Rattle.linkages.specs.Paths.{Landing, Unbarred, Walk, stop, step, Path, Linkage}
+use Rattle.linkages.specs.Lists.{Mem, here, there, Distinct, Next, begins, goes-on}
+use Rattle.linkages.specs.Paths.{Landing, Unbarred, Walk, stop, step, Path}
 use Rattle.linkages.specs.Nets.{first-of, pads-of, Wiring, OffNets, Exit, Entered, start, onward, backward, Failed, last-in, Nets-link}
 use Rattle.linkages.proofs.Members.{mem-none, mem-cases, mem-at, mem-of-kept, disjoint-kept, mem-map, same-list, distinct-picks}
 use Rattle.linkages.proofs.Fewer.{path-under}

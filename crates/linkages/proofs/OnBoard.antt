@@ -7,7 +7,7 @@ use native.Mathlib.Omega.{arith}
 use lib.ListN.{length, getD}
 use Rattle.boards.specs.Meaning.{Meaning, Bounded, outlets-of}
 use Rattle.linkages.specs.Lists.{Mem, here, there}
-use Rattle.linkages.specs.Paths.{Walk, stop, step, Path, Paths-stay-on-board}
+use Rattle.linkages.specs.Paths.{Walk, stop, step, Paths-stay-on-board}
 use Rattle.linkages.proofs.Members.{mem-none}
 use Rattle.linkages.proofs.Places.{has-from-mem}
 

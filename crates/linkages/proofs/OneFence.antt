@@ -1,13 +1,13 @@
 -- Pads with a fence have no linkage, and there is at most one fence.
-use mathlib.Core.Path.{_≡_, refl, sym, subst, _∙_}
-use mathlib.Core.List.{List, [], _∷_, map}
-use mathlib.Core.Logic.{_⊎_, inl, inr}
+use mathlib.Core.Path.{_≡_, refl, sym, subst}
+use mathlib.Core.List.{List, _∷_, map}
+use mathlib.Core.Logic.{inl, inr}
 use Prim.Native.Nat.{ℕ, _+_, _≤_, _<_}
 use native.Mathlib.Omega.{arith}
 use lib.ListN.{length, length-map}
 use Rattle.boards.specs.Meaning.{Meaning}
-use Rattle.linkages.specs.Lists.{Mem, here, there, Within, Same, Distinct, Meets}
-use Rattle.linkages.specs.Paths.{Landing, Path, Linkage, CanBeMet}
+use Rattle.linkages.specs.Lists.{Mem, Within, Same, Distinct, Meets}
+use Rattle.linkages.specs.Paths.{Path, Linkage}
 use Rattle.linkages.specs.Fences.{Blocks, Fence, Too-few-cells, No-linkage, One-fence}
 use Rattle.linkages.proofs.Members.{mem-cases, mem-at, dec-mem, without, mem-of-without, length-without-ge, distinct-without, mem-map}
 use Rattle.linkages.proofs.Members.{mem-of-map}

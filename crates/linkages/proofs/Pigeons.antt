@@ -2,13 +2,13 @@
 use mathlib.Core.Path.{_≡_, refl, sym, subst, _∙_}
 use mathlib.Core.List.{List, [], _∷_, map}
 use mathlib.Core.Logic.{_⊎_, inl, inr}
-use Prim.Native.Nat.{ℕ, suc, _≤_, _<_}
+use Prim.Native.Nat.{ℕ, _≤_}
 use native.Mathlib.Omega.{arith}
 use native.Mathlib.Decide.{ℕ-discrete}
 use lib.ListN.{length, length-map}
 use Rattle.linkages.specs.Lists.{Mem, here, there, Within, Same, Distinct, Meets, Disjoint}
 use Rattle.linkages.specs.Fences.{Pigeonhole}
-use Rattle.linkages.proofs.Members.{mem-none, mem-cases, mem-one, mem-at, mem-each, dec-meets, without, mem-without, length-without}
+use Rattle.linkages.proofs.Members.{mem-none, mem-one, mem-at, mem-each, dec-meets, without, mem-without, length-without}
 use Rattle.linkages.proofs.Members.{mem-of-map, same-list}
 
 meets-without : {X xs : List ℕ} (y : ℕ) → Meets X xs → (Mem y xs → ⊥) → Meets (without y X) xs

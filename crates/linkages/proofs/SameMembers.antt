@@ -1,13 +1,10 @@
 -- A fence depends only on the members of its lists.
-use mathlib.Core.Path.{_≡_, sym, _∙_}
 use mathlib.Core.List.{List}
-use Prim.Native.Nat.{ℕ, _+_}
+use Prim.Native.Nat.{ℕ}
 use native.Mathlib.Omega.{arith}
-use lib.ListN.{length}
 use Rattle.boards.specs.Meaning.{Meaning}
-use Rattle.linkages.specs.Lists.{Mem, Within, Same, Distinct}
-use Rattle.linkages.specs.Paths.{Landing, Path}
-use Rattle.linkages.specs.Fences.{Blocks, Fence, Fence-by-members, Fence-for-fewer, Fences-agree}
+use Rattle.linkages.specs.Lists.{Within, Same}
+use Rattle.linkages.specs.Fences.{Blocks, Fence-by-members, Fence-for-fewer, Fences-agree}
 use Rattle.linkages.proofs.Members.{meets-more}
 use Rattle.linkages.proofs.Pigeons.{same-length}
 use Rattle.linkages.proofs.Fewer.{path-fewer-bars}

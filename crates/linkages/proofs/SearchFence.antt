@@ -1,6 +1,6 @@
 -- A search that finds no way leaves a fence.
 use mathlib.Core.Path.{_≡_, refl, sym, ap, subst, _∙_}
-use mathlib.Core.List.{List, [], _∷_, map}
+use mathlib.Core.List.{List, _∷_}
 use mathlib.Core.Logic.{_⊎_, inl, inr}
 use mathlib.Core.Bool.{Bool, true}
 use Prim.Native.Nat.{ℕ, _+_}
@@ -9,7 +9,7 @@ use lib.ListN.{length, length-map}
 use Rattle.std.specs.shelf.Lists.{kept-by}
 use Rattle.boards.specs.Meaning.{Meaning, outlets-of}
 use Rattle.linkages.specs.Lists.{Mem, here, there, Within, Same, Distinct, Meets, Next}
-use Rattle.linkages.specs.Paths.{Landing, Unbarred, Walk, stop, step, Path, Linkage}
+use Rattle.linkages.specs.Paths.{Landing, Unbarred, Walk, stop, step, Path}
 use Rattle.linkages.specs.Fences.{Blocks, Fence}
 use Rattle.linkages.specs.Nets.{first-of, pads-of, Wiring, OffNets, Exit, off-nets, along, Entered, start, onward, backward, Trapped}
 use Rattle.linkages.specs.Nets.{last-in, fence-pads, fence-cells, Last-entered, Shows, Trapped-cannot-be-met, Search-fences, Shown-fences}

@@ -7,21 +7,19 @@ use Prim.Native.Nat.{ℕ, zero, suc, _≤_, _<_}
 use native.Mathlib.Omega.{arith}
 use lib.ListN.{length, getD}
 use Rattle.std.specs.Orderings.{Decides}
-use Rattle.boards.specs.Meaning.{Meaning, Bounded, outlets-of, landing-at}
-use Rattle.linkages.specs.Lists.{Mem, here, there, Within, Same, Distinct, Disjoint, Next, begins, goes-on}
-use Rattle.linkages.specs.Paths.{Landing, Unbarred, Walk, stop, step, Path, CanBeMet, Lands-once}
+use Rattle.boards.specs.Meaning.{Meaning, Bounded, outlets-of}
+use Rattle.linkages.specs.Lists.{Mem, here, there, Distinct, Next, begins, goes-on}
+use Rattle.linkages.specs.Paths.{Landing, Unbarred, stop, step, Path}
 use Rattle.linkages.specs.Fences.{Fence}
-use Rattle.linkages.specs.Nets.{first-of, Wiring, OffNets, Exit, off-nets, along, Entered, start, onward, backward, Failed, Trapped}
+use Rattle.linkages.specs.Nets.{first-of, Wiring, OffNets, Exit, off-nets, along, Entered, start, onward, backward, Trapped}
 use Rattle.linkages.specs.Nets.{Last-entered, Shows}
 use Rattle.linkages.specs.Examples.{marked, row, row-nets, Row-example, Barred-row-example, lone, Lone-example, line, Line-example}
-use Rattle.linkages.proofs.Members.{mem-none, mem-cases, mem-one, mem-at, mem-each}
+use Rattle.linkages.proofs.Members.{mem-none, mem-cases, mem-one}
 use Rattle.linkages.proofs.Walks.{next-two, next-not-one}
-use Rattle.linkages.proofs.NetLists.{nets-link, next-left, failed-from-closed}
-use Rattle.linkages.proofs.OneFence.{no-linkage}
+use Rattle.linkages.proofs.NetLists.{nets-link, failed-from-closed}
 use Rattle.linkages.proofs.SameMembers.{fence-for-fewer}
 use Rattle.linkages.proofs.SearchFence.{search-fences, trapped-cannot-be-met, the-fence}
 use Rattle.linkages.proofs.Places.{mem-getD}
-use Rattle.linkages.proofs.OnBoard.{marked-below}
 
 -- ---- lists written out
 

@@ -1,9 +1,8 @@
 -- Small boards that meet everything that the theorems ask for, with the fences that come of it.
-use mathlib.Core.Path.{_≡_}
 use mathlib.Core.List.{List, [], _∷_}
 use mathlib.Core.Bool.{Bool, true, false}
-use Prim.Native.Nat.{ℕ, _<_}
-use lib.ListN.{length, getD}
+use Prim.Native.Nat.{ℕ}
+use lib.ListN.{getD}
 use Rattle.boards.specs.Meaning.{Meaning, Bounded}
 use Rattle.linkages.specs.Lists.{Same, Disjoint}
 use Rattle.linkages.specs.Paths.{Landing, Walk, Path, CanBeMet}

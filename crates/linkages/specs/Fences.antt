@@ -1,11 +1,11 @@
 -- Fences: cells that show that pads cannot all be met, and what is claimed of them.
 use mathlib.Core.Path.{_≡_}
-use mathlib.Core.List.{List, [], _∷_}
+use mathlib.Core.List.{List, _∷_}
 use Prim.Native.Nat.{ℕ, _+_, _<_}
 use lib.ListN.{length}
 use Rattle.boards.specs.Meaning.{Meaning}
 use Rattle.linkages.specs.Lists.{Mem, Within, Same, Distinct, Meets, Disjoint}
-use Rattle.linkages.specs.Paths.{Landing, Unbarred, Path, Linkage, CanBeMet}
+use Rattle.linkages.specs.Paths.{Landing, Unbarred, Path, CanBeMet}
 
 -- every unbarred path from a pad of A to a landing meets a cell of X
 abbrev pub Blocks : Meaning → List ℕ → List ℕ → List ℕ → Type 0
