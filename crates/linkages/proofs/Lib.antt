@@ -5,6 +5,7 @@ pub mod Fewer
 pub mod OneFence
 pub mod SameMembers
 pub mod NetLists
+pub mod Wired
 pub mod SearchFence
 pub mod Places
 pub mod OnBoard

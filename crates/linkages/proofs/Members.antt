@@ -32,13 +32,13 @@ mem-each P h k c (there i) = k c i
 pub meets-more : {X X′ xs xs′ : List ℕ} → Within X X′ → Within xs xs′ → Meets X xs → Meets X′ xs′
 meets-more w v h = record { cell = h .cell; of = w (h .cell) (h .of); on = v (h .cell) (h .on) }
 
+pub mem-front : {c : ℕ} {xs : List ℕ} (ys : List ℕ) → Mem c xs → Mem c (xs ++ ys)
+mem-front ys (here e) = here e
+mem-front ys (there k) = there (mem-front ys k)
+
 pub distinct-front : (xs ys : List ℕ) → Distinct (xs ++ ys) → Distinct xs
 distinct-front [] ys d = tt
-distinct-front (x ∷ xs) ys d = (λ k. d .0 (mem-front k), distinct-front xs ys (d .1))
-  where
-    mem-front : {c : ℕ} {zs : List ℕ} → Mem c zs → Mem c (zs ++ ys)
-    mem-front (here e) = here e
-    mem-front (there k) = there (mem-front k)
+distinct-front (x ∷ xs) ys d = (λ k. d .0 (mem-front ys k), distinct-front xs ys (d .1))
 
 -- ---- decided
 

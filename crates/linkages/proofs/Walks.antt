@@ -2,12 +2,12 @@
 use mathlib.Core.Path.{_≡_, refl, sym, ap, subst, _∙_}
 use mathlib.Core.List.{List, [], _∷_}
 use mathlib.Core.Logic.{_⊎_, inl, inr}
-use mathlib.Core.Bool.{Bool, true, false, false≢true}
+use mathlib.Core.Bool.{Bool, true, false, cond, false≢true}
 use Prim.Native.Nat.{ℕ}
 use Rattle.boards.specs.Meaning.{Meaning, landing-at}
 use Rattle.linkages.specs.Lists.{Mem, here, there, Within, Distinct, Next, begins, goes-on, Front}
-use Rattle.linkages.specs.Paths.{Landing, Unbarred, Walk, stop, step, Path, Lands-once, Walks-shorten, Fronts-are-paths, Truncated}
-use Rattle.linkages.proofs.Members.{mem-none, mem-cases, mem-at, dec-mem, distinct-front}
+use Rattle.linkages.specs.Paths.{Landing, Unbarred, Walk, stop, step, Path, Lands-once, upto-landing, Walks-shorten, Fronts-are-paths, Truncated}
+use Rattle.linkages.proofs.Members.{mem-none, mem-cases, mem-at, dec-mem, mem-front, distinct-front}
 
 pub walk-first : {m : Meaning} {bars : List ℕ} {z a : ℕ} {xs : List ℕ} → Walk m bars z a xs → Mem a xs
 walk-first (stop f e) = here refl
@@ -40,6 +40,9 @@ pub upto-front : {c : ℕ} {xs : List ℕ} (k : Mem c xs) → Front (upto k) xs
 unfolding upto
 upto-front (here {xs = xs} e) = (xs, refl)
 upto-front (there {x = x} k) = let f = upto-front k in (f .0, ap (λ l. x ∷ l) (f .1))
+
+pub front-within : (ys xs : List ℕ) → Front ys xs → Within ys xs
+front-within ys xs f c k = subst (Mem c) (f .1) (mem-front (f .0) k)
 
 pub front-distinct : (ys xs : List ℕ) → Front ys xs → Distinct xs → Distinct ys
 front-distinct ys xs f d = distinct-front ys (f .0) (subst Distinct (sym (f .1)) d)
@@ -180,47 +183,42 @@ next-two (goes-on n) = inr n
 pub next-not-one : {u t x : ℕ} → Next u t (x ∷ []) → ⊥
 next-not-one (goes-on n) = elim n [ ]
 
--- the front of a walk to a landing that ends at its first landing
-pub record Cut (m : Meaning) (bars : List ℕ) (a : ℕ) (xs : List ℕ) : Type 0 where
-  pub cells : List ℕ
-  pub end : ℕ
-  pub front : Front cells xs
-  pub walk : Walk m bars end a cells
-  pub lands : Landing m end
-  pub lands-once : Lands-once m cells
-
-pub cut-at-landing : {m : Meaning} {bars : List ℕ} {z a : ℕ} {xs : List ℕ} → Walk m bars z a xs → Landing m z → Cut m bars a xs
-cut-at-landing {m} {a = a} (stop f e) l = record {
-  cells = a ∷ [];
-  end = a;
-  front = ([], refl);
-  walk = stop f refl;
-  lands = subst (Landing m) (sym e) l;
-  lands-once = λ u t n. absurd (next-not-one n);
-}
-cut-at-landing {m} {bars} {a = a} (step {b = b} {xs = xs} f o w) l = go (landing-at m a) refl (cut-at-landing w l)
+pub upto-landing-front : (m : Meaning) (xs : List ℕ) → Front (upto-landing m xs) xs
+upto-landing-front m [] = ([], refl)
+upto-landing-front m (x ∷ xs) = go (landing-at m x) (upto-landing-front m xs)
   where
-    go : (h : Bool) → landing-at m a ≡ h → Cut m bars b xs → Cut m bars a (a ∷ xs)
-    go true h i = record {
-      cells = a ∷ [];
-      end = a;
-      front = (xs, refl);
-      walk = stop f refl;
-      lands = h;
-      lands-once = λ u t n. absurd (next-not-one n);
-    }
-    go false h i = record {
-      cells = a ∷ i .cells;
-      end = i .end;
-      front = (i .front .0, ap (λ l. a ∷ l) (i .front .1));
-      walk = step f o (i .walk);
-      lands = i .lands;
-      lands-once = λ u t n k. elim (next-cases n) [
-        | inl e ↦ absurd (false≢true (sym h ∙ (ap (landing-at m) (sym e) ∙ k)))
-        | inr j ↦ i .lands-once u t j k
-      ];
-    }
+    go : (h : Bool) → Front (upto-landing m xs) xs → Front (cond h (x ∷ []) (x ∷ upto-landing m xs)) (x ∷ xs)
+    go true f = (xs, refl)
+    go false f = (f .0, ap (λ l. x ∷ l) (f .1))
+
+pub lands-once : (m : Meaning) (xs : List ℕ) → Lands-once m (upto-landing m xs)
+lands-once m [] u t n l = elim n [ ]
+lands-once m (x ∷ xs) u t n l = go (landing-at m x) refl (lands-once m xs u t) n l
+  where
+    go : (h : Bool) → landing-at m x ≡ h → (Next u t (upto-landing m xs) → Landing m u → ⊥) →
+        Next u t (cond h (x ∷ []) (x ∷ upto-landing m xs)) → Landing m u → ⊥
+    go true h k n l = next-not-one n
+    go false h k n l = elim (next-cases n) [
+      | inl e ↦ false≢true (sym h ∙ (ap (landing-at m) (sym e) ∙ l))
+      | inr i ↦ k i l
+    ]
+
+pub walk-to-landing : {m : Meaning} {bars : List ℕ} {z a : ℕ} {xs : List ℕ} → Walk m bars z a xs → Landing m z →
+    (c : ℕ) × Landing m c × Walk m bars c a (upto-landing m xs)
+walk-to-landing {m} {bars} {a = a} (stop f e) l = go (landing-at m a) refl (subst (Landing m) (sym e) l)
+  where
+    go : (h : Bool) → landing-at m a ≡ h → Landing m a → (c : ℕ) × Landing m c × Walk m bars c a (cond h (a ∷ []) (a ∷ []))
+    go true h k = (a, k, stop f refl)
+    go false h k = absurd (false≢true (sym h ∙ k))
+walk-to-landing {m} {bars} {a = a} (step {b = b} {xs = xs} f o w) l = go (landing-at m a) refl (walk-to-landing w l)
+  where
+    go : (h : Bool) → landing-at m a ≡ h → (c : ℕ) × Landing m c × Walk m bars c b (upto-landing m xs) →
+        (c : ℕ) × Landing m c × Walk m bars c a (cond h (a ∷ []) (a ∷ upto-landing m xs))
+    go true h i = (a, h, stop f refl)
+    go false h i = (i .0, i .1, step f o (i .2))
 
 pub truncated : Truncated
-truncated m bars a z xs P l = let i = cut-at-landing (P .walk) l in
-    (i .cells, i .end, i .front, record { walk = i .walk; distinct = front-distinct (i .cells) xs (i .front) (P .distinct) }, i .lands, i .lands-once)
+truncated m bars a z xs P l =
+    let front = upto-landing-front m xs in
+    let w = walk-to-landing (P .walk) l in
+    (front, lands-once m xs, (w .0, w .1, record { walk = w .2; distinct = front-distinct (upto-landing m xs) xs front (P .distinct) }))

@@ -90,6 +90,11 @@ pub record Shows (nets : List (List ℕ)) (p : ℕ) (entered : ℕ → Bool) (A 
 abbrev pub Nets-link : Type 0
 Nets-link = (m : Meaning) (bars : List ℕ) (nets : List (List ℕ)) → Wiring m bars nets → Linkage m bars (pads-of nets)
 
+-- and pads that can be met can be wired: there are nets that begin with them, in their order
+abbrev pub Linkages-wire : Type 0
+Linkages-wire = (m : Meaning) (bars S : List ℕ) → Distinct S → CanBeMet m bars S →
+    (nets : List (List ℕ)) × Wiring m bars nets × (pads-of nets ≡ S)
+
 -- where the search from p finds no way, p and the wired pads cannot all be met
 abbrev pub Trapped-cannot-be-met : Type 0
 Trapped-cannot-be-met = (m : Meaning) (bars : List ℕ) (nets : List (List ℕ)) (p : ℕ) (entered : ℕ → Bool) → Trapped m bars nets p entered →

@@ -1,9 +1,16 @@
 // Nets, and the fence of a search that finds no way.
-ghost use Rattle.linkages.specs.Nets.{Nets-link, Trapped-cannot-be-met, Search-fences, Shown-fences, The-fence};
+ghost use Rattle.linkages.specs.Nets.{Nets-link, Linkages-wire, Trapped-cannot-be-met, Search-fences, Shown-fences, The-fence};
 
 // Nets are a linkage of their pads.
 pub fn nets_link_stands() -> u8
     ensures { λ _. ⌜ Nets-link ⌝ }
+{
+    0
+}
+
+// Pads that can be met can be wired.
+pub fn linkages_wire_stands() -> u8
+    ensures { λ _. ⌜ Linkages-wire ⌝ }
 {
     0
 }
