@@ -1,4 +1,5 @@
 pub mod Members
+pub mod Nexts
 pub mod Pigeons
 pub mod Walks
 pub mod Fewer

@@ -9,10 +9,11 @@ use Rattle.std.specs.shelf.Lists.{kept-by}
 use Rattle.boards.specs.Meaning.{Meaning, outlets-of}
 use Rattle.linkages.specs.Lists.{Mem, here, there, Distinct, Next, begins, goes-on}
 use Rattle.linkages.specs.Paths.{Landing, Unbarred, Walk, stop, step, Path}
-use Rattle.linkages.specs.Nets.{first-of, pads-of, Wiring, OffNets, Exit, Entered, start, onward, backward, Failed, last-in, Nets-link}
+use Rattle.linkages.specs.Nets.{first-of, pads-of, Wiring, OffNets, Exit, off-nets, along, Entered, start, onward, backward, Failed, last-in, Nets-link}
 use Rattle.linkages.proofs.Members.{mem-none, mem-cases, mem-at, mem-of-kept, disjoint-kept, mem-map, same-list, distinct-picks}
 use Rattle.linkages.proofs.Fewer.{path-under}
-use Rattle.linkages.proofs.Walks.{walk-first, before, next-two, next-not-one}
+use Rattle.linkages.proofs.Walks.{walk-first, before}
+use Rattle.linkages.proofs.Nexts.{next-two, next-not-one, next-right, next-left, next-one-before}
 
 -- ---- nets by their pads
 
@@ -90,13 +91,14 @@ wiring-under off Q = record {
 
 -- ---- neighbours on a net
 
-unfoldable pub next-right : {u t : ℕ} {xs : List ℕ} → Next u t xs → Mem t xs
-next-right (begins e f) = there (here f)
-next-right (goes-on n) = there (next-right n)
-
-unfoldable pub next-left : {u t : ℕ} {xs : List ℕ} → Next u t xs → Mem u xs
-next-left (begins e f) = here e
-next-left (goes-on n) = there (next-left n)
+-- a search goes on from one cell at most
+pub exit-one : {m : Meaning} {bars : List ℕ} {nets : List (List ℕ)} {t u v : ℕ} → Wiring m bars nets → Exit nets t u → Exit nets t v → u ≡ v
+exit-one Q (off-nets n e) (off-nets k f) = e ∙ sym f
+exit-one Q (off-nets n e) (along xs k i) = absurd (n xs k (next-right i))
+exit-one Q (along xs k i) (off-nets n e) = absurd (n xs k (next-right i))
+exit-one {m} {bars} {nets} {t} {u} {v} Q (along xs k i) (along ys l j) =
+    let e = same-net m bars nets Q k l (next-right i) (next-right j) in
+    next-one-before (Q .runs xs k .distinct) i (subst (Next v t) (sym e) j)
 
 -- a cell is before the next one, and so is what is before it
 pub next-before : {u t : ℕ} {xs : List ℕ} (n : Next u t xs) → Mem u (before (next-right n))

@@ -20,7 +20,8 @@ use Rattle.linkages.proofs.Walks.{walk-first, walk-unbarred, before, before-wi
 use Rattle.linkages.proofs.Walks.{loopless, graft}
 use Rattle.linkages.proofs.OneFence.{holds-p, linked, on-path, one-on-path, no-linkage, one-fence}
 use Rattle.linkages.proofs.SameMembers.{fence-by-members}
-use Rattle.linkages.proofs.NetLists.{net-of, net-of-mem, first-on, same-net, net-of-first, pads-differ, nets-link, next-right, next-left}
+use Rattle.linkages.proofs.NetLists.{net-of, net-of-mem, first-on, same-net, net-of-first, pads-differ, nets-link}
+use Rattle.linkages.proofs.Nexts.{next-right, next-left}
 use Rattle.linkages.proofs.NetLists.{next-before, next-before-more, Passes-front, first-passes, last-in-mem, last-in-passes, last-in-last}
 use Rattle.linkages.proofs.NetLists.{last-or-next}
 

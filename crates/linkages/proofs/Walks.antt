@@ -7,6 +7,7 @@ use Prim.Native.Nat.{ℕ}
 use Rattle.boards.specs.Meaning.{Meaning, landing-at}
 use Rattle.linkages.specs.Lists.{Mem, here, there, Within, Distinct, Next, begins, goes-on, Front}
 use Rattle.linkages.specs.Paths.{Landing, Unbarred, Walk, stop, step, Path, Lands-once, upto-landing, Walks-shorten, Fronts-are-paths, Truncated}
+use Rattle.linkages.proofs.Nexts.{next-cases, next-not-one}
 use Rattle.linkages.proofs.Members.{mem-none, mem-cases, mem-at, dec-mem, mem-front, distinct-front}
 
 pub walk-first : {m : Meaning} {bars : List ℕ} {z a : ℕ} {xs : List ℕ} → Walk m bars z a xs → Mem a xs
@@ -171,17 +172,6 @@ graft {m} {bars} {a = a} {ys = ys} (step f o w) (there k) v = let i = graft w k 
 }
 
 -- ---- cut after the first landing
-
-pub next-cases : {u t x : ℕ} {xs : List ℕ} → Next u t (x ∷ xs) → (u ≡ x) ⊎ Next u t xs
-next-cases (begins e f) = inl e
-next-cases (goes-on n) = inr n
-
-pub next-two : {u t x y : ℕ} {xs : List ℕ} → Next u t (x ∷ y ∷ xs) → ((u ≡ x) × (t ≡ y)) ⊎ Next u t (y ∷ xs)
-next-two (begins e f) = inl (e, f)
-next-two (goes-on n) = inr n
-
-pub next-not-one : {u t x : ℕ} → Next u t (x ∷ []) → ⊥
-next-not-one (goes-on n) = elim n [ ]
 
 pub upto-landing-front : (m : Meaning) (xs : List ℕ) → Front (upto-landing m xs) xs
 upto-landing-front m [] = ([], refl)

@@ -15,7 +15,7 @@ use Rattle.linkages.specs.Nets.{first-of, Wiring, OffNets, Exit, off-nets, alo
 use Rattle.linkages.specs.Nets.{Last-entered, Shows}
 use Rattle.linkages.specs.Examples.{marked, row, row-nets, Row-example, Barred-row-example, lone, Lone-example, line, Line-example}
 use Rattle.linkages.proofs.Members.{mem-none, mem-cases, mem-one}
-use Rattle.linkages.proofs.Walks.{next-two, next-not-one}
+use Rattle.linkages.proofs.Nexts.{next-two, next-not-one}
 use Rattle.linkages.proofs.NetLists.{nets-link, failed-from-closed}
 use Rattle.linkages.proofs.SameMembers.{fence-for-fewer}
 use Rattle.linkages.proofs.SearchFence.{search-fences, trapped-cannot-be-met, the-fence}
