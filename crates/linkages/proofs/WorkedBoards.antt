@@ -9,7 +9,7 @@ use lib.ListN.{length, getD}
 use Rattle.std.specs.Orderings.{Decides}
 use Rattle.boards.specs.Meaning.{Meaning, Bounded, outlets-of}
 use Rattle.linkages.specs.Lists.{Mem, here, there, Distinct, Next, begins, goes-on}
-use Rattle.linkages.specs.Paths.{Landing, Unbarred, stop, step, Path}
+use Rattle.linkages.specs.Paths.{Landing, Unbarred, stop, step, Path, CanBeMet}
 use Rattle.linkages.specs.Fences.{Fence}
 use Rattle.linkages.specs.Nets.{first-of, Wiring, OffNets, Exit, off-nets, along, Entered, start, onward, backward, Trapped}
 use Rattle.linkages.specs.Nets.{Last-entered, Shows}
@@ -90,16 +90,21 @@ row-inside (suc (suc (suc (suc zero)))) d k = elim (mem-two k) [ inl e ↦ omega
 row-inside (suc (suc (suc (suc (suc zero))))) d k = let e = mem-one k in omega arith
 row-inside (suc (suc (suc (suc (suc (suc c)))))) d k = absurd (mem-none k)
 
-row-bounded : Bounded row
-row-bounded = record {
-  some-cell = omega arith;
-  few-cells = omega arith;
-  outlets-length = refl;
-  pads-length = refl;
-  landings-length = refl;
-  few-outlets = row-few;
-  inside = λ c j h. row-inside c (getD (outlets-of row c) j 0) (mem-getD (outlets-of row c) j 0 h);
+-- a board is bounded if its lists have the right lengths, and each cell has few outlets, all of them cells
+bounded-by : (m : Meaning) → 1 ≤ m .cells → m .cells ≤ 4096 → length (m .outlets) ≡ m .cells → length (m .pads) ≡ m .cells →
+    length (m .landings) ≡ m .cells → ((c : ℕ) → length (outlets-of m c) ≤ 8) → ((c d : ℕ) → Mem d (outlets-of m c) → d < m .cells) → Bounded m
+bounded-by m some few outs pads lands small inside = record {
+  some-cell = some;
+  few-cells = few;
+  outlets-length = outs;
+  pads-length = pads;
+  landings-length = lands;
+  few-outlets = small;
+  inside = λ c j h. inside c (getD (outlets-of m c) j 0) (mem-getD (outlets-of m c) j 0 h);
 }
+
+row-bounded : Bounded row
+row-bounded = bounded-by row (omega arith) (omega arith) refl refl refl row-few row-inside
 
 row-landing : (c : ℕ) → Landing row c → c ≡ 5
 row-landing zero h = absurd (false≢true h)
@@ -223,6 +228,24 @@ row-shows = record {
           | inr g ↦ elim g [ inl e ↦ go-on 5 (omega arith) (goes-on (begins e refl)) | inr e ↦ here e ]
         ]
 
+row-pad-0 : CanBeMet row [] (0 ∷ [])
+row-pad-0 = record {
+  path = λ q. 0 ∷ 3 ∷ 4 ∷ 5 ∷ [];
+  end = λ q. 5;
+  runs = λ q k. subst (λ (a : ℕ). Path row [] a 5 (0 ∷ 3 ∷ 4 ∷ 5 ∷ [])) (sym (mem-one k)) course;
+  lands = λ q k. refl;
+  apart = λ q r c k l i j. mem-one k ∙ sym (mem-one l);
+}
+  where
+    course : Path row [] 0 5 (0 ∷ 3 ∷ 4 ∷ 5 ∷ [])
+    course = record {
+      walk = step mem-none (here refl) (step mem-none (here refl) (step mem-none (here refl) (stop mem-none refl)));
+      distinct = (
+        λ k. elim (mem-three k) [ inl e ↦ omega arith | inr h ↦ elim h [ inl e ↦ omega arith | inr e ↦ omega arith ] ],
+        distinct-three 3 4 5 (λ e. omega arith) (λ e. omega arith) (λ e. omega arith),
+      );
+    }
+
 pub row-example : Row-example
 unfolding all-six
 row-example = record {
@@ -238,6 +261,7 @@ row-example = record {
   trapped = row-trapped;
   shows = row-shows;
   fence = search-fences row [] row-nets 0 (marked all-six) row-trapped;
+  pad-0-can = row-pad-0;
   pad-1-can = nets-link row [] row-nets (row-trapped .wiring);
   both-cannot = trapped-cannot-be-met row [] row-nets 0 (marked all-six) row-trapped;
   no-other = the-fence row [] row-nets 0 (marked all-six) row-trapped;
@@ -330,8 +354,19 @@ lone-trapped = record {
     none zero h l n = false≢true l
     none (suc c) h l n = false≢true l
 
+lone-bounded : Bounded lone
+lone-bounded = bounded-by lone (omega arith) (omega arith) refl refl refl few inside
+  where
+    few : (c : ℕ) → length (outlets-of lone c) ≤ 8
+    few zero = omega arith
+    few (suc c) = omega arith
+
+    inside : (c d : ℕ) → Mem d (outlets-of lone c) → d < 1
+    inside zero d k = absurd (mem-none k)
+    inside (suc c) d k = absurd (mem-none k)
+
 pub lone-example : Lone-example
-lone-example = record { trapped = lone-trapped; fence = search-fences lone [] [] 0 (marked one-mark) lone-trapped }
+lone-example = record { bounded = lone-bounded; trapped = lone-trapped; fence = search-fences lone [] [] 0 (marked one-mark) lone-trapped }
 
 -- ---- the pad in the middle of a net
 
@@ -383,8 +418,23 @@ line-trapped = record {
     none : (c : ℕ) → marked line-marks c ≡ true → Landing line c → OffNets line-nets c → ⊥
     none c h l n = n (0 ∷ 1 ∷ 2 ∷ []) (here refl) (on-net c h)
 
+line-bounded : Bounded line
+line-bounded = bounded-by line (omega arith) (omega arith) refl refl refl few inside
+  where
+    few : (c : ℕ) → length (outlets-of line c) ≤ 8
+    few zero = omega arith
+    few (suc zero) = omega arith
+    few (suc (suc zero)) = omega arith
+    few (suc (suc (suc c))) = omega arith
+
+    inside : (c d : ℕ) → Mem d (outlets-of line c) → d < 3
+    inside zero d k = let e = mem-one k in omega arith
+    inside (suc zero) d k = let e = mem-one k in omega arith
+    inside (suc (suc zero)) d k = absurd (mem-none k)
+    inside (suc (suc (suc c))) d k = absurd (mem-none k)
+
 pub line-example : Line-example
-line-example = record { trapped = line-trapped; fence = search-fences line [] line-nets 1 (marked line-marks) line-trapped }
+line-example = record { bounded = line-bounded; trapped = line-trapped; fence = search-fences line [] line-nets 1 (marked line-marks) line-trapped }
 
 -- ---- the one cell, or the one pad, of a fence
 

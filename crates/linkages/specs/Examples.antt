@@ -38,6 +38,7 @@ pub record Row-example : Type 0 where
   pub trapped : Trapped row [] row-nets 0 (marked (true ∷ true ∷ true ∷ true ∷ true ∷ true ∷ []))
   pub shows : Shows row-nets 0 (marked (true ∷ true ∷ true ∷ true ∷ true ∷ true ∷ [])) (0 ∷ 1 ∷ []) (5 ∷ [])
   pub fence : Fence row [] (0 ∷ 1 ∷ []) (0 ∷ 1 ∷ []) (5 ∷ [])
+  pub pad-0-can : CanBeMet row [] (0 ∷ [])
   pub pad-1-can : CanBeMet row [] (1 ∷ [])
   pub both-cannot : CanBeMet row [] (0 ∷ 1 ∷ []) → ⊥
   pub no-other : (A X : List ℕ) → Fence row [] (0 ∷ 1 ∷ []) A X → Same A (0 ∷ 1 ∷ []) × Same X (5 ∷ [])
@@ -54,6 +55,7 @@ abbrev pub lone : Meaning
 lone = record { cells = 1; outlets = [] ∷ []; pads = true ∷ []; landings = false ∷ [] }
 
 pub record Lone-example : Type 0 where
+  pub bounded : Bounded lone
   pub trapped : Trapped lone [] [] 0 (marked (true ∷ []))
   pub fence : Fence lone [] (0 ∷ []) (0 ∷ []) []
 
@@ -69,5 +71,6 @@ line = record {
 
 -- pad 0 is wired through pad 1: the search from 1 goes back to 0 and no further; the nearest cell that blocks both is 1, not 2
 pub record Line-example : Type 0 where
+  pub bounded : Bounded line
   pub trapped : Trapped line [] ((0 ∷ 1 ∷ 2 ∷ []) ∷ []) 1 (marked (true ∷ true ∷ []))
   pub fence : Fence line [] (1 ∷ 0 ∷ []) (1 ∷ 0 ∷ []) (1 ∷ [])

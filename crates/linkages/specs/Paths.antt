@@ -34,7 +34,7 @@ pub record Linkage (m : Meaning) (bars S : List ℕ) : Type 0 where
 abbrev pub CanBeMet : Meaning → List ℕ → List ℕ → Type 0
 CanBeMet m bars S = Linkage m bars S
 
--- only the last cell is a landing
+-- no cell but the last is a landing
 abbrev pub Lands-once : Meaning → List ℕ → Type 0
 Lands-once m xs = (u t : ℕ) → Next u t xs → Landing m u → ⊥
 

@@ -9,7 +9,7 @@ pub fn pigeonhole_stands() -> u8
     0
 }
 
-// Whether so many cells, met by every path from so many pads, show that the pads cannot all be met: exactly if the cells are fewer.
+// Whether so many cells that block so many pads show that these cannot all be met: exactly if the cells are fewer.
 pub fn too_few(cells: usize, pads: usize) -> bool
     ensures { λ r. ⌜ Decides r (Too-few-cells cells pads) ⌝ }
 {
