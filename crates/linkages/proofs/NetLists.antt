@@ -9,7 +9,8 @@ use Rattle.std.specs.shelf.Lists.{kept-by}
 use Rattle.boards.specs.Meaning.{Meaning, outlets-of}
 use Rattle.linkages.specs.Lists.{Mem, here, there, Distinct, Next, begins, goes-on}
 use Rattle.linkages.specs.Paths.{Landing, Unbarred, Walk, stop, step, Path}
-use Rattle.linkages.specs.Nets.{first-of, pads-of, Wiring, OffNets, Exit, off-nets, along, Entered, start, onward, backward, Failed, last-in, Nets-link}
+use Rattle.linkages.specs.Nets.{first-of, pads-of, Wiring, OffNets, Exit, off-nets, along, Entered, start, onward, backward, Failed}
+use Rattle.linkages.specs.Nets.{last-in, Nets-link}
 use Rattle.linkages.proofs.Members.{mem-none, mem-cases, mem-at, mem-of-kept, disjoint-kept, mem-map, same-list, distinct-picks}
 use Rattle.linkages.proofs.Fewer.{path-under}
 use Rattle.linkages.proofs.Walks.{walk-first, before}

@@ -6,7 +6,8 @@ use mathlib.Core.Bool.{Bool, true, false, cond, false≢true}
 use Prim.Native.Nat.{ℕ}
 use Rattle.boards.specs.Meaning.{Meaning, landing-at}
 use Rattle.linkages.specs.Lists.{Mem, here, there, Within, Distinct, Next, begins, goes-on, Front}
-use Rattle.linkages.specs.Paths.{Landing, Unbarred, Walk, stop, step, Path, Lands-once, upto-landing, Walks-shorten, Fronts-are-paths, Truncated}
+use Rattle.linkages.specs.Paths.{Landing, Unbarred, Walk, stop, step, Path, Lands-once, upto-landing, Walks-shorten, Fronts-are-paths}
+use Rattle.linkages.specs.Paths.{Truncated}
 use Rattle.linkages.proofs.Nexts.{next-cases, next-not-one}
 use Rattle.linkages.proofs.Members.{mem-none, mem-cases, mem-at, dec-mem, mem-front, distinct-front}
 

@@ -64,7 +64,9 @@ module _ (m : Meaning) (bars S : List ℕ) (d : Distinct S) (L : Linkage m bars 
         let g = good (t .0) (t .1) in
         subst (λ (ys : List ℕ). Path m bars (first-of ys) (last-of ys) ys) (sym (t .2))
         (subst (λ (a : ℕ). Path m bars a (last-of (net (t .0))) (net (t .0))) (g .first) (g .runs));
-    lands = λ xs k. let t = mem-of-map net xs S k in subst (λ (ys : List ℕ). Landing m (last-of ys)) (sym (t .2)) (good (t .0) (t .1) .lands);
+    lands = λ xs k.
+        let t = mem-of-map net xs S k in
+        subst (λ (ys : List ℕ). Landing m (last-of ys)) (sym (t .2)) (good (t .0) (t .1) .lands);
     lands-once = λ xs k. let t = mem-of-map net xs S k in subst (Lands-once m) (sym (t .2)) (lands-once m (L .path (t .0)));
   }
 

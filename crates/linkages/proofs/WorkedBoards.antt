@@ -92,7 +92,8 @@ row-inside (suc (suc (suc (suc (suc (suc c)))))) d k = absurd (mem-none k)
 
 -- a board is bounded if its lists have the right lengths, and each cell has few outlets, all of them cells
 bounded-by : (m : Meaning) → 1 ≤ m .cells → m .cells ≤ 4096 → length (m .outlets) ≡ m .cells → length (m .pads) ≡ m .cells →
-    length (m .landings) ≡ m .cells → ((c : ℕ) → length (outlets-of m c) ≤ 8) → ((c d : ℕ) → Mem d (outlets-of m c) → d < m .cells) → Bounded m
+    length (m .landings) ≡ m .cells → ((c : ℕ) → length (outlets-of m c) ≤ 8) →
+    ((c d : ℕ) → Mem d (outlets-of m c) → d < m .cells) → Bounded m
 bounded-by m some few outs pads lands small inside = record {
   some-cell = some;
   few-cells = few;
@@ -284,7 +285,8 @@ barred-came zero h = start
 barred-came (suc zero) h = absurd (false≢true h)
 barred-came (suc (suc zero)) h = absurd (false≢true h)
 barred-came (suc (suc (suc zero))) h =
-    onward start (off-nets (row-off 0 (λ e. omega arith) (λ e. omega arith) (λ e. omega arith)) refl) (not-4 3 (λ e. omega arith)) (here refl)
+    onward start (off-nets (row-off 0 (λ e. omega arith) (λ e. omega arith) (λ e. omega arith)) refl)
+    (not-4 3 (λ e. omega arith)) (here refl)
 barred-came (suc (suc (suc (suc c)))) h = absurd (false≢true h)
 
 barred-back : (t u : ℕ) → marked two-marks t ≡ true → Exit row-nets t u → marked two-marks u ≡ true
@@ -434,7 +436,11 @@ line-bounded = bounded-by line (omega arith) (omega arith) refl refl refl few in
     inside (suc (suc (suc c))) d k = absurd (mem-none k)
 
 pub line-example : Line-example
-line-example = record { bounded = line-bounded; trapped = line-trapped; fence = search-fences line [] line-nets 1 (marked line-marks) line-trapped }
+line-example = record {
+  bounded = line-bounded;
+  trapped = line-trapped;
+  fence = search-fences line [] line-nets 1 (marked line-marks) line-trapped;
+}
 
 -- ---- the one cell, or the one pad, of a fence
 
