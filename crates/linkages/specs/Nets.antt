@@ -6,7 +6,7 @@ use Prim.Native.Nat.{ℕ}
 use Rattle.std.specs.shelf.Lists.{kept-by}
 use Rattle.boards.specs.Meaning.{Meaning, outlets-of}
 use Rattle.linkages.specs.Lists.{Mem, Same, Distinct, Disjoint, Next}
-use Rattle.linkages.specs.Paths.{Landing, Unbarred, Path, Linkage, Lands-once}
+use Rattle.linkages.specs.Paths.{Landing, Unbarred, Path, Linkage, CanBeMet, Lands-once}
 use Rattle.linkages.specs.Fences.{Fence}
 
 abbrev pub first-of : List ℕ → ℕ
@@ -89,6 +89,16 @@ pub record Shows (nets : List (List ℕ)) (p : ℕ) (entered : ℕ → Bool) (A 
 -- the nets are a linkage of their pads
 abbrev pub Nets-link : Type 0
 Nets-link = (m : Meaning) (bars : List ℕ) (nets : List (List ℕ)) → Wiring m bars nets → Linkage m bars (pads-of nets)
+
+-- and pads that can be met can be wired: there are nets that begin with them, in their order
+abbrev pub Linkages-wire : Type 0
+Linkages-wire = (m : Meaning) (bars S : List ℕ) → Distinct S → CanBeMet m bars S →
+    (nets : List (List ℕ)) × Wiring m bars nets × (pads-of nets ≡ S)
+
+-- where the search from p finds no way, p and the wired pads cannot all be met
+abbrev pub Trapped-cannot-be-met : Type 0
+Trapped-cannot-be-met = (m : Meaning) (bars : List ℕ) (nets : List (List ℕ)) (p : ℕ) (entered : ℕ → Bool) → Trapped m bars nets p entered →
+    CanBeMet m bars (p ∷ pads-of nets) → ⊥
 
 -- a search that finds no way leaves a fence, listed net by net
 abbrev pub Search-fences : Type 0

@@ -1,7 +1,7 @@
 -- Paths and linkages of a board m under bars, and what is claimed of them. The bars are a list of cells.
 use mathlib.Core.Path.{_≡_}
 use mathlib.Core.List.{List, [], _∷_}
-use mathlib.Core.Bool.{true}
+use mathlib.Core.Bool.{true, cond}
 use Prim.Native.Nat.{ℕ, _<_}
 use Rattle.boards.specs.Meaning.{Meaning, Bounded, outlets-of, pad-at, landing-at}
 use Rattle.linkages.specs.Lists.{Mem, Within, Distinct, Next, Front}
@@ -34,9 +34,14 @@ pub record Linkage (m : Meaning) (bars S : List ℕ) : Type 0 where
 abbrev pub CanBeMet : Meaning → List ℕ → List ℕ → Type 0
 CanBeMet m bars S = Linkage m bars S
 
--- only the last cell is a landing
+-- no cell but the last is a landing
 abbrev pub Lands-once : Meaning → List ℕ → Type 0
 Lands-once m xs = (u t : ℕ) → Next u t xs → Landing m u → ⊥
+
+-- the list as far as its first landing
+abbrev pub upto-landing : Meaning → List ℕ → List ℕ
+upto-landing m [] = []
+upto-landing m (x ∷ xs) = cond (landing-at m x) (x ∷ []) (x ∷ upto-landing m xs)
 
 -- ---- what is claimed
 
@@ -53,7 +58,8 @@ Fronts-are-paths = (m : Meaning) (bars : List ℕ) (a z c : ℕ) (xs : List ℕ)
 -- a path to a landing, cut after its first landing, is a path to a landing, and only its last cell is one
 abbrev pub Truncated : Type 0
 Truncated = (m : Meaning) (bars : List ℕ) (a z : ℕ) (xs : List ℕ) → Path m bars a z xs → Landing m z →
-    (ys : List ℕ) × (c : ℕ) × Front ys xs × Path m bars a c ys × Landing m c × Lands-once m ys
+    Front (upto-landing m xs) xs × Lands-once m (upto-landing m xs) ×
+    ((c : ℕ) × Landing m c × Path m bars a c (upto-landing m xs))
 
 -- a linkage is one for fewer pads, and under fewer bars; so it depends only on the members of the two lists
 abbrev pub Linkage-for-less : Type 0

@@ -1,8 +1,5 @@
-// Paths, linkages and fences of a board: theorems, each the contract of a function.
-ghost use Rattle.linkages.specs.Paths.{Linkage-for-less};
-
-pub fn linkage_for_less_stands() -> u8
-    ensures { λ _. ⌜ Linkage-for-less ⌝ }
-{
-    0
-}
+// Paths, linkages and fences of a board under bars. Each theorem is the contract of a small function.
+pub mod examples;
+pub mod fences;
+pub mod nets;
+pub mod paths;
