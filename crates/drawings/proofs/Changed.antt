@@ -16,7 +16,7 @@ use Rattle.drawings.specs.declared.records.Record.the-variants.{Free, Barred, 
 use Rattle.drawings.specs.Records.{after-of, is-last, record-at}
 use Rattle.drawings.specs.Nets.{after-at, last-at, net, last-of, Runs, ends, goes}
 use Rattle.drawings.specs.Changes.{freed, head-of}
-use Rattle.drawings.proofs.Members.{mem-none, mem-cases, mem-at}
+use Rattle.linkages.proofs.Members.{mem-none, mem-at}
 use Rattle.drawings.proofs.Follow.{run-distinct, net-run, net-here, run-step}
 
 pub set-free : (d : List Record) (c : ℕ) → record-at (set d c Free) c ≡ Free

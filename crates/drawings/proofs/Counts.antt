@@ -13,7 +13,8 @@ use Rattle.linkages.specs.Lists.{Mem, here, there, Distinct, Within}
 use Rattle.drawings.specs.declared.records.Record.{Record}
 use Rattle.drawings.specs.Nets.{net-at, first-at, cells-where, wired, net}
 use Rattle.drawings.specs.Lawful.{Local, Reached, Lawful}
-use Rattle.drawings.proofs.Members.{length-within, within-back, joined-cases, mem-joined, distinct-joined}
+use Rattle.linkages.proofs.Pigeons.{within-length}
+use Rattle.drawings.proofs.Members.{within-back, joined-cases, mem-joined, distinct-joined}
 use Rattle.drawings.proofs.Cells.{kept-below, below-kept, distinct-kept-below, kept-below-more, length-below}
 use Rattle.drawings.proofs.Said.{first-net, net-inside}
 use Rattle.drawings.proofs.Follow.{net-runs, net-reached, reached-net, nets-apart, run-net, run-distinct}
@@ -78,8 +79,8 @@ module _ (m : Meaning) (d : List Record) (L : (c : ℕ) → Local m d c) where
   pub reach-counts : ((c : ℕ) → net-at d c ≡ true → Reached d c) → length (cells-where d (net-at d)) ≡ length (joined (net d) (wired d))
   unfolding met
   reach-counts f =
-      let low = length-within (met (length d)) (cells-where d (net-at d)) (met-distinct (length d)) met-within in
-      let high = length-within (cells-where d (net-at d)) (met (length d)) (distinct-kept-below (net-at d) (length d))
+      let low = within-length (met (length d)) (cells-where d (net-at d)) (met-distinct (length d)) met-within in
+      let high = within-length (cells-where d (net-at d)) (met (length d)) (distinct-kept-below (net-at d) (length d))
       (λ c i. let h = kept-below (net-at d) (length d) c i in
       let r = reached-net m d L (f c (h .1)) in
       mem-joined (net d) c (r .0) (wired d) (below-kept (first-at d) (length d) (r .0) (net-inside d (r .0) (first-net _ (r .1))) (r .1)) (r .2)) in

@@ -15,7 +15,7 @@ use Rattle.drawings.specs.declared.records.Record.{Record}
 use Rattle.drawings.specs.Records.{before-of, after-of, is-net, is-first, is-last, is-barred, record-at}
 use Rattle.drawings.specs.Nets.{before-at, after-at, net-at, first-at, last-at, onward, net, Runs, ends, goes}
 use Rattle.drawings.specs.Lawful.{Local, Reached, first, next}
-use Rattle.drawings.proofs.Members.{mem-none, mem-cases, mem-at}
+use Rattle.linkages.proofs.Members.{mem-none, mem-at}
 use Rattle.drawings.proofs.Cells.{length-below}
 use Rattle.drawings.proofs.Said.{none-not-some, some-same, before-net, after-net, first-net, last-net, net-last, net-inside}
 

@@ -21,7 +21,8 @@ use Rattle.drawings.specs.Nets.{before-at, after-at, net-at, first-at, last-at
 use Rattle.drawings.specs.Lawful.{Local, Reached, first, next, Lawful}
 use Rattle.drawings.specs.Changes.{freed}
 use Rattle.drawings.specs.Outcomes.{Frees}
-use Rattle.drawings.proofs.Members.{mem-none, mem-at, dec-mem, same-kept, kept-twice}
+use Rattle.linkages.proofs.Members.{mem-none, mem-one, mem-at, dec-mem}
+use Rattle.drawings.proofs.Members.{same-kept, kept-twice}
 use Rattle.drawings.proofs.Said.{none-not-some, some-same, before-net, after-net, first-net, last-net, net-unbarred}
 use Rattle.drawings.proofs.Locals.{local-free}
 use Rattle.drawings.proofs.Changed.{freed-long, freed-inside, freed-outside, run-kept}
@@ -173,12 +174,8 @@ module _ (m : Meaning) (d e : List Record) (c : ℕ) (W : Lawful m d) (p : first
 -- ---- a bar
 
 module _ (m : Meaning) (d e : List Record) (c : ℕ) (W : Lawful m d) (b : barred-at d c ≡ true) (F : Frees (c ∷ []) d e) where
-  only : {k : ℕ} → Mem k (c ∷ []) → k ≡ c
-  only (here f) = f
-  only (there i) = absurd (mem-none i)
-
   off-net : {k : ℕ} → Mem k (c ∷ []) → net-at d k ≡ true → ⊥
-  off-net {k} i h = both-ways (barred-at d k) (net-unbarred (record-at d k) h) (ap (barred-at d) (only i) ∙ b)
+  off-net {k} i h = both-ways (barred-at d k) (net-unbarred (record-at d k) h) (ap (barred-at d) (mem-one i) ∙ b)
 
   pub clear-lawful : Lawful m e
   clear-lawful = free-lawful m d e (c ∷ []) (W .local) F
@@ -198,7 +195,7 @@ module _ (m : Meaning) (d e : List Record) (c : ℕ) (W : Lawful m d) (b : barre
     where
       go : (k : ℕ) → (k ≡ c) ⊎ (k ≡ c → ⊥) → barred-at e k ≡ (barred-at d k && not (eqb k c))
       go k (inl f) = ap is-barred (F .inside k (here f)) ∙ sym (and-not-same (barred-at d k) k c f)
-      go k (inr n) = ap is-barred (F .outside k (λ i. n (only i))) ∙ sym (and-not-other (barred-at d k) k c n)
+      go k (inr n) = ap is-barred (F .outside k (λ i. n (mem-one i))) ∙ sym (and-not-other (barred-at d k) k c n)
 
   pub clear-nets : (w : ℕ) → Mem w (wired d) → net e w ≡ net d w
   clear-nets w i =

@@ -15,31 +15,14 @@ use Rattle.drawings.specs.Records.{is-net, record-at}
 use Rattle.drawings.specs.Nets.{after-at, net-at, first-at, last-at, barred-at, wired, bars, net, nets, last-of, Runs, ends, goes}
 use Rattle.drawings.specs.Lawful.{Lawful}
 use Rattle.drawings.specs.Links.{Linked}
-use Rattle.drawings.proofs.Members.{mem-none, mem-cases, mem-at}
+use Rattle.linkages.proofs.Members.{mem-none, mem-map, mem-of-map}
+use Rattle.linkages.proofs.Pigeons.{disjoint-paths}
 use Rattle.drawings.proofs.Cells.{kept-below, below-kept, distinct-kept-below}
 use Rattle.drawings.proofs.Said.{none-not-some, some-same, first-net, last-net, after-net, net-unbarred, net-inside}
 use Rattle.drawings.proofs.Follow.{run-first, run-net, run-distinct, net-runs, nets-apart, reached-net}
 use Rattle.drawings.proofs.Freeing.{run-last-at}
 
 -- ---- lists made from lists
-
-pub mem-map : {X Y : Type 0} (f : X → Y) {x : X} {xs : List X} → Mem x xs → Mem (f x) (map f xs)
-mem-map f (here e) = here (ap f e)
-mem-map f (there m) = there (mem-map f m)
-
-pub map-cases : {X Y : Type 0} (f : X → Y) (y : Y) (xs : List X) → Mem y (map f xs) → (x : X) × Mem x xs × (y ≡ f x)
-map-cases f y [] m = absurd (mem-none m)
-map-cases f y (x ∷ xs) (here e) = (x, here refl, e)
-map-cases f y (x ∷ xs) (there m) = let h = map-cases f y xs m in (h .0, there (h .1), h .2)
-
-disjoint-map : (f : ℕ → List ℕ) (xs : List ℕ) → Distinct xs →
-    ((x y c : ℕ) → Mem x xs → Mem y xs → Mem c (f x) → Mem c (f y) → x ≡ y) → Disjoint (map f xs)
-disjoint-map f [] d apart = tt
-disjoint-map f (x ∷ xs) d apart =
-    ( λ ys c m i j.
-        let h = map-cases f ys xs m in
-        d .0 (mem-at (apart x (h .0) c (here refl) (there (h .1)) i (subst (Mem c) (h .2) j)) (h .1)),
-      disjoint-map f xs (d .1) (λ y z c m n. apart y z c (there m) (there n)) )
 
 same-map : {X : Type 0} (f : X → X) (xs : List X) → ((x : X) → Mem x xs → f x ≡ x) → map f xs ≡ xs
 same-map f [] e = refl
@@ -96,7 +79,7 @@ module _ (m : Meaning) (d : List Record) (W : Lawful m d) where
   -- each net of the list is a run
   pub nets-run : (xs : List ℕ) → Mem xs (nets d) → Runs d (first-of xs) xs
   nets-run xs i =
-      let h = map-cases (net d) xs (wired d) i in
+      let h = mem-of-map (net d) xs (wired d) i in
       let r = subst (Runs d (h .0)) (sym (h .2)) (wired-runs (h .0) (h .1)) in
       subst (λ c. Runs d c xs) (sym (run-begins r)) r
 
@@ -112,7 +95,7 @@ module _ (m : Meaning) (d : List Record) (W : Lawful m d) where
   pub linked : Linked m d
   linked = record {
     wiring = record {
-      disjoint = disjoint-map (net d) (wired d) (distinct-kept-below (first-at d) (length d)) apart;
+      disjoint = disjoint-paths (wired d) (net d) (distinct-kept-below (first-at d) (length d)) apart;
       end = last-of 0;
       runs = λ xs i. run-path 0 (nets-run xs i);
       lands = λ xs i. run-lands 0 (nets-run xs i);

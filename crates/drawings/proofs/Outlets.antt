@@ -11,7 +11,8 @@ use Rattle.std.proofs.shelf.Tests.{cases-bool, ltb-true, lt-ltb}
 use Rattle.std.specs.declared.option.Option.the-variants.{Some, None}
 use Rattle.boards.specs.Meaning.{at, when}
 use Rattle.linkages.specs.Lists.{Mem}
-use Rattle.drawings.proofs.Members.{mem-getD, mem-at, place-of}
+use Rattle.linkages.proofs.Members.{mem-at}
+use Rattle.linkages.proofs.Places.{mem-getD, has-from-mem}
 
 pub outlet-mem : (xs : List ℕ) (j t : ℕ) → at xs j ≡ Some t → Mem t xs
 outlet-mem xs j t e = ⊎-elim
@@ -21,5 +22,5 @@ outlet-mem xs j t e = ⊎-elim
 
 pub mem-outlet : (xs : List ℕ) (t : ℕ) → Mem t xs → (j : ℕ) × (j < length xs) × (at xs j ≡ Some t)
 mem-outlet xs t m =
-    let p = place-of xs t 0 m in
-    (p .0, p .1, ap (λ b. when b (getD xs (p .0) 0)) (lt-ltb (p .0) (length xs) (p .1)) ∙ ap Some (p .2))
+    let p = has-from-mem xs t m in
+    (p .0, p .1, ap (λ b. when b (getD xs (p .0) 0)) (lt-ltb (p .0) (length xs) (p .1)) ∙ ap Some (p .2 0))
