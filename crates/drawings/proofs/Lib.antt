@@ -8,3 +8,4 @@ pub mod Locals
 pub mod Changed
 pub mod Freeing
 pub mod Linking
+pub mod Relaying

@@ -13,6 +13,7 @@ ghost use Rattle.boards.specs.Meaning.{outlets-of, pad-at, landing-at};
 ghost use Rattle.linkages.specs.Lists.{Mem};
 ghost use Rattle.drawings.specs.Nets.{before-at, after-at, net-at, cells-where, wired, net};
 ghost use Rattle.drawings.specs.Lawful.{Local, Begins, Goes-on, Lawful};
+ghost use Rattle.drawings.specs.Links.{Linked};
 use crate::nets::net_length;
 use crate::records::Record;
 use crate::records::record_at;
@@ -128,9 +129,10 @@ fn reached_cells<B: Board>(board: &B, drawing: &[Record]) -> usize
     count
 }
 
-// Whether a drawing is lawful for a board, for any records whatever.
+// Whether a drawing is lawful for a board, for any records whatever. The nets of a lawful drawing link its wired pads to landings.
 pub fn is_lawful<B: Board>(board: &B, drawing: &[Record]) -> bool
-    ensures { λ r. ⌜ Decides r (Lawful (meaning (now (board .entry))) (now (drawing .entry))) ⌝ }
+    ensures decides { λ r. ⌜ Decides r (Lawful (meaning (now (board .entry))) (now (drawing .entry))) ⌝ }
+    ensures links { λ r. ⌜ (r ≡ true → Linked (meaning (now (board .entry))) (now (drawing .entry))) ⌝ }
 {
     if drawing.len() != board.cells() as usize {
         return false;

@@ -14,7 +14,7 @@ returns g c =
     let d = c .args .drawing .now in
     let e = c .put .last .drawing in
     let x = c .args .cell in
-    let W = c .is-lawful .ensures .0 (c .if-not-is-lawful .left) in
+    let W = c .is-lawful .ensures .decides .0 (c .if-not-is-lawful .left) in
     let b : barred-at d x ≡ true = sym (ap is-barred (c .record-at .ensures)) ∙ sym (c .if-not-is-barred .ensures tt) in
     let F = frees (x ∷ []) d e (c .put .ensures) in
     record {

@@ -14,19 +14,19 @@ returns-in-Some g c =
     let d = c .args .drawing .now in
     let e = c .take-up .last .drawing in
     let x = c .args .cell in
-    let W = c .is-lawful .ensures .0 (c .if-not-is-lawful .left) in
+    let W = c .is-lawful .ensures .decides .0 (c .if-not-is-lawful .left) in
     let p : first-at d x ≡ true = sym (ap is-first (c .record-at .ensures)) ∙ sym (c .if-not-is-first .ensures tt) in
-    let F = frees (net d x) d e (c .in-Some .ensures tt .2) in
+    let F = frees (net d x) d e (c .in-Some .ensures tt .answer .2) in
     record {
       answer = (
         search needs,
         record {
           frees = F;
-          landing = c .in-Some .ensures tt .1;
+          landing = c .in-Some .ensures tt .answer .1;
           lawful = lift-lawful m d e x W p F;
           one-less = lift-wired m d e x W p F;
           same-bars = lift-bars m d e x W p F;
-          landing-free = lift-used m d e x W p F ∙ sym (ap (λ z. without z (used m d)) (c .in-Some .ensures tt .1));
+          landing-free = lift-used m d e x W p F ∙ sym (ap (λ z. without z (used m d)) (c .in-Some .ensures tt .answer .1));
           same-nets = lift-nets m d e x W p F;
         },
       );
@@ -38,6 +38,6 @@ returns-in-None g c =
     let m = g .B·Board .meaning (c .args .board .now) in
     let d = c .args .drawing .now in
     let x = c .args .cell in
-    let W = c .is-lawful .ensures .0 (c .if-not-is-lawful .left) in
+    let W = c .is-lawful .ensures .decides .0 (c .if-not-is-lawful .left) in
     let p : first-at d x ≡ true = sym (ap is-first (c .record-at .ensures)) ∙ sym (c .if-not-is-first .ensures tt) in
-    absurd (c .in-None .ensures tt .0 (net d x) (net-runs m d (W .local) x p))
+    absurd (c .in-None .ensures tt .answer .0 (net d x) (net-runs m d (W .local) x p))

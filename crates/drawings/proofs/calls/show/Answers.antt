@@ -18,7 +18,7 @@ returns-in-Some g c =
     let d = c .args .drawing .now in
     let x = c .args .cell in
     let e = c .in-Some .ensures tt in
-    let W = c .is-lawful .ensures .0 (c .if-not-is-lawful .left) in
+    let W = c .is-lawful .ensures .decides .0 (c .if-not-is-lawful .left) in
     record {
       answer = (
         search needs,
@@ -37,7 +37,7 @@ returns-in-None g c =
     let m = g .B·Board .meaning (c .args .board .now) in
     let d = c .args .drawing .now in
     let x = c .args .cell in
-    let W = c .is-lawful .ensures .0 (c .if-not-is-lawful .left) in
+    let W = c .is-lawful .ensures .decides .0 (c .if-not-is-lawful .left) in
     let p : first-at d x ≡ true = sym (ap is-first (c .record-at .ensures)) ∙ sym (c .if-not-is-first .ensures tt) in
     let r = net-runs m d (W .local) x p in
     absurd (c .in-None .ensures tt .0 (net d x) r (omega (arith, run-short r)))
