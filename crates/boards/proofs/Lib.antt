@@ -1,0 +1,6 @@
+pub mod Lists
+pub mod Meanings
+pub mod Somes
+pub mod Grids
+pub mod MapBoards
+pub mod Accepted
