@@ -4,3 +4,5 @@ pub mod Somes
 pub mod Grids
 pub mod MapBoards
 pub mod Accepted
+pub mod Masks
+pub mod Kept

@@ -7,37 +7,21 @@ use native.Mathlib.Omega.{arith}
 use lib.ListN.{length, getD, length-map}
 use Rattle.std.specs.declared.option.Option.{Option}
 use Rattle.std.specs.declared.option.Option.the-variants.{Some, None}
+use Rattle.std.proofs.shelf.Lists.{getD-map}
 use Rattle.std.proofs.shelf.Counted.{length-map-counting}
 use Rattle.std.proofs.shelf.Bits.{mul-le}
 use Rattle.std.proofs.shelf.Tests.{and-parts, not-true}
 use Rattle.boards.specs.declared.place.Place.{Place}
 use Rattle.boards.specs.declared.place.Step.{Step}
+use Rattle.boards.specs.declared.place.Step.the-variants.{North}
 use Rattle.boards.specs.Meaning.{Bounded, No-way-in, outlet-at, landing-at}
 use Rattle.boards.specs.Places.{Placed, In-range, Leads, place-at}
 use Rattle.boards.specs.Grids.{On-grid, place-of, cell-of, beside, grid-places}
 use Rattle.boards.specs.Maps.{Sides-allowed, byte-at, pad-place, passes, way-to, way, somes, map-board}
 use Rattle.boards.proofs.Lists.{when-some}
-use Rattle.boards.proofs.Somes.{length-somes}
+use Rattle.boards.proofs.Somes.{length-somes, somes-from}
 use Rattle.boards.proofs.Meanings.{made-in, made-out, made-outlet, bounded-of}
 use Rattle.boards.proofs.Grids.{place-on-grid, cell-of-place, cell-below, place-of-cell, beside-leads, some-point, grid-placed, grid-unplaced}
-
--- each of the numbers that are there comes from one of the steps
-module _ (f : Step → Option ℕ) where
-  Comes : ℕ → Type 0
-  Comes d = (s : Step) × (f s ≡ Some d)
-
-  comes-go : (s : Step) (ss : List Step) (o : Option ℕ) → f s ≡ o →
-      ((j : ℕ) → j < length (somes (map f ss)) → Comes (getD (somes (map f ss)) j 0)) →
-      (j : ℕ) → j < length (somes (o ∷ map f ss)) → Comes (getD (somes (o ∷ map f ss)) j 0)
-  unfolding Comes
-  comes-go s ss (Some x) e k zero h = (s, e)
-  comes-go s ss (Some x) e k (suc j) h = k j (omega arith)
-  comes-go s ss None e k j h = k j h
-
-  pub comes-from : (ss : List Step) (j : ℕ) → j < length (somes (map f ss)) → (s : Step) × (f s ≡ Some (getD (somes (map f ss)) j 0))
-  unfolding Comes
-  comes-from [] j h = let z : ⊥ = omega arith in absurd z
-  comes-from (s ∷ ss) j h = comes-go s ss (f s) refl (comes-from ss) j h
 
 -- where a way leads
 pub record Way (L R C : ℕ) (bytes : List ℕ) (p : Place) (d : ℕ) : Type 0 where
@@ -79,8 +63,10 @@ module _ (L R C : ℕ) (bytes : List ℕ) (steps : List Step) (landing : Place �
 
   way-of : (c j : ℕ) → j < length (somes (ways c)) → Way L R C bytes (place-of R C c) (getD (somes (ways c)) j 0)
   way-of c j h =
-      let s = comes-from (way L R C bytes (place-of R C c)) steps j h in
-      way-gives L R C bytes (place-of R C c) (s .0) _ (s .1)
+      let s = somes-from (ways c) j h in
+      let f = way L R C bytes (place-of R C c) in
+      let k : s .place < length steps = rw (length-map steps f) at (s .below) in
+      way-gives L R C bytes (place-of R C c) (getD steps (s .place) North) _ (sym (getD-map f steps (s .place) North None k) ∙ s .is)
 
   outlet-way : (c j d : ℕ) → outlet-at (map-board L R C bytes steps landing) c j ≡ Some d → (c < L * (R * C)) × Way L R C bytes (place-of R C c) d
   outlet-way c j d e =

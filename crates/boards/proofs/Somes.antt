@@ -1,13 +1,16 @@
 -- The numbers that are there in a list of options: how many come before a place, and which one comes after so many.
-use mathlib.Core.Path.{_≡_, refl, ap, _∙_}
-use mathlib.Core.List.{List, [], _∷_}
+use mathlib.Core.Path.{_≡_, refl, sym, ap, _∙_}
+use mathlib.Core.Bool.{Bool, true, false, cond}
+use mathlib.Core.List.{List, [], _∷_, map}
 use Prim.Native.Nat.{ℕ, zero, suc, _+_, _≤_, _<_}
 use native.Mathlib.Omega.{arith}
 use native.Mathlib.Numerals.{add-one}
 use lib.ListN.{length, getD, take}
 use Rattle.std.specs.declared.option.Option.{Option}
 use Rattle.std.specs.declared.option.Option.the-variants.{Some, None}
-use Rattle.boards.specs.Meaning.{at}
+use lib.Seq.{take-all}
+use Rattle.std.specs.shelf.Lists.{kept-by}
+use Rattle.boards.specs.Meaning.{at, when}
 use Rattle.boards.specs.Maps.{somes}
 use Rattle.boards.proofs.Lists.{at-in, at-some}
 
@@ -15,6 +18,21 @@ pub length-somes : (xs : List (Option ℕ)) → length (somes xs) ≤ length xs
 length-somes [] = omega arith
 length-somes (Some x ∷ xs) = omega (arith, length-somes xs)
 length-somes (None ∷ xs) = omega (arith, length-somes xs)
+
+-- each of the numbers that are there stands somewhere in the list
+pub record Stands (xs : List (Option ℕ)) (x : ℕ) : Type 0 where
+  pub place : ℕ
+  pub below : place < length xs
+  pub is : getD xs place None ≡ Some x
+
+later : {o : Option ℕ} {xs : List (Option ℕ)} {x : ℕ} → Stands xs x → Stands (o ∷ xs) x
+later h = let b = h .below in record { place = suc (h .place); below = omega arith; is = h .is }
+
+pub somes-from : (xs : List (Option ℕ)) (j : ℕ) → j < length (somes xs) → Stands xs (getD (somes xs) j 0)
+somes-from [] j h = let z : ⊥ = omega arith in absurd z
+somes-from (Some x ∷ xs) zero h = record { place = 0; below = omega arith; is = refl }
+somes-from (Some x ∷ xs) (suc j) h = later (somes-from xs j (omega arith))
+somes-from (None ∷ xs) j h = later (somes-from xs j h)
 
 no-some : {X : Type 0} {x : ℕ} → None ≡ Some x → X
 no-some e = let z : _≡_ {A = ℕ} 0 1 = cc in let n : ⊥ = omega arith in absurd n
@@ -53,3 +71,17 @@ at-somes (Some y ∷ xs) (suc i) (suc j) x h e k =
     let s = at-some (somes xs) j x (at-somes xs i j x (omega arith) e (omega arith)) in
     at-in (y ∷ somes xs) (suc j) (omega arith) ∙ ap Some (s .1)
 at-somes (None ∷ xs) (suc i) j x h e k = at-somes xs i j x (omega arith) e k
+
+-- past the end nothing is added
+pub somes-past : (xs : List (Option ℕ)) (i : ℕ) → length xs ≤ i → length (somes (take (i + 1) xs)) ≡ length (somes (take i xs))
+somes-past xs i h = ap (λ ys. length (somes ys)) (take-all (i + 1) xs (omega arith) ∙ sym (take-all i xs h))
+
+-- a filter keeps the numbers that it lets through
+kept-go : (p : ℕ → Bool) (x : ℕ) (xs : List ℕ) (b : Bool) → kept-by p xs ≡ somes (map (λ y. when (p y) y) xs) →
+    cond b (x ∷ kept-by p xs) (kept-by p xs) ≡ somes (when b x ∷ map (λ y. when (p y) y) xs)
+kept-go p x xs true e = ap (λ ys. x ∷ ys) e
+kept-go p x xs false e = e
+
+pub kept-somes : (p : ℕ → Bool) (xs : List ℕ) → kept-by p xs ≡ somes (map (λ y. when (p y) y) xs)
+kept-somes p [] = refl
+kept-somes p (x ∷ xs) = kept-go p x xs (p x) (kept-somes p xs)

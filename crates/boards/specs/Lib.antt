@@ -7,3 +7,4 @@ pub mod Maps
 pub mod MapMade
 pub mod Fields
 pub mod Escapes
+pub mod KeepOuts

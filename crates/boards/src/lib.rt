@@ -6,6 +6,7 @@ pub mod board;
 pub mod escape;
 pub mod field;
 mod grid;
+pub mod keep_out;
 mod map;
 pub mod maps;
 mod one_cell;
