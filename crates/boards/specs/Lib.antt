@@ -1,3 +1,10 @@
 pub mod Meaning
 pub mod Places
 pub mod Refusals
+pub mod Numbers
+pub mod Grids
+pub mod Maps
+pub mod MapMade
+pub mod Fields
+pub mod Escapes
+pub mod KeepOuts
