@@ -190,6 +190,14 @@ module _ (m : Meaning) (d e : List Record) (c : ℕ) (W : Lawful m d) (b : barre
       go k (yes i) = ap is-first (F .inside k i) ∙ sym (⊎-elim (λ h. absurd (off-net i (first-net (record-at d k) h))) (λ h. h) (cases-bool (first-at d k)))
       go k (no n) = ap is-first (F .outside k n)
 
+  pub clear-used : used m e ≡ used m d
+  clear-used = cells-same d e (λ k. net-at e k && landing-at m k) (λ k. net-at d k && landing-at m k) (F .long)
+      (λ k. ap (λ b. b && landing-at m k) (go k (dec-mem k (c ∷ []))))
+    where
+      go : (k : ℕ) → Dec (Mem k (c ∷ [])) → net-at e k ≡ net-at d k
+      go k (yes i) = ap is-net (F .inside k i) ∙ sym (⊎-elim (λ h. absurd (off-net i h)) (λ h. h) (cases-bool (net-at d k)))
+      go k (no n) = ap is-net (F .outside k n)
+
   pub clear-bars : bars e ≡ without c (bars d)
   clear-bars = cells-without d e (barred-at e) (barred-at d) c (F .long) (λ k. go k (cases-eq k c))
     where

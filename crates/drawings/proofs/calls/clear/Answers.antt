@@ -5,7 +5,7 @@ use mathlib.Core.List.{[], _∷_}
 use native.Mathlib.Omega.{arith}
 use Rattle.drawings.specs.Records.{is-barred}
 use Rattle.drawings.specs.Nets.{barred-at}
-use Rattle.drawings.proofs.Freeing.{frees, clear-lawful, clear-wired, clear-bars, clear-nets}
+use Rattle.drawings.proofs.Freeing.{frees, clear-lawful, clear-wired, clear-bars, clear-used, clear-nets}
 use Rattle.drawings.proofs.calls.clear.Needs as need
 
 pub returns : need.returns
@@ -26,6 +26,7 @@ returns g c =
           lawful = clear-lawful m d e x W b F;
           one-less = clear-bars m d e x W b F;
           same-wired = clear-wired m d e x W b F;
+          same-used = clear-used m d e x W b F;
           same-nets = clear-nets m d e x W b F;
         },
       );

@@ -2,10 +2,11 @@ use borrow.Author.Needs.{needs}
 use mathlib.Core.Path.{_≡_, refl, sym, ap, _∙_}
 use mathlib.Core.Bool.{true}
 use native.Mathlib.Omega.{arith}
+use Rattle.boards.specs.Meaning.{landing-at}
 use Rattle.drawings.specs.Records.{is-first}
 use Rattle.drawings.specs.Nets.{first-at, used, net, last-of, without}
 use Rattle.drawings.proofs.Follow.{net-runs}
-use Rattle.drawings.proofs.Freeing.{frees, lift-lawful, lift-wired, lift-bars, lift-used, lift-nets}
+use Rattle.drawings.proofs.Freeing.{frees, run-last-at, lift-lawful, lift-wired, lift-bars, lift-used, lift-nets}
 use Rattle.drawings.proofs.calls.lift.Needs as need
 
 pub returns-in-Some : need.returns-in-Some
@@ -22,7 +23,8 @@ returns-in-Some g c =
         search needs,
         record {
           frees = F;
-          landing = c .in-Some .ensures tt .answer .1;
+          last = c .in-Some .ensures tt .answer .1;
+          landing = ap (landing-at m) (c .in-Some .ensures tt .answer .1) ∙ W .local (last-of x (net d x)) .last-is-landing (run-last-at x (c .in-Some .ensures tt .answer .0));
           lawful = lift-lawful m d e x W p F;
           one-less = lift-wired m d e x W p F;
           same-bars = lift-bars m d e x W p F;

@@ -1,6 +1,7 @@
 use borrow.Author.Needs.{needs}
 use borrow.Author.Count.{below-more}
 use mathlib.Core.Path.{_≡_, refl, sym, ap, _∙_}
+use mathlib.Core.Bool.{_&&_}
 use mathlib.Core.Logic.{⊎-elim}
 use native.Mathlib.Omega.{arith}
 use Prim.Native.Nat.{ℕ}
@@ -9,8 +10,9 @@ use Rattle.std.specs.Iters.{counting}
 use Rattle.std.proofs.shelf.Lists.{getD-past}
 use Rattle.std.proofs.shelf.Tests.{cases-lt, false≢true}
 use Rattle.drawings.specs.declared.records.Record.the-variants.{Free}
+use Rattle.boards.specs.Meaning.{landing-at}
 use Rattle.drawings.specs.Records.{is-net, is-first, is-barred, record-at}
-use Rattle.drawings.specs.Nets.{first-at, barred-at}
+use Rattle.drawings.specs.Nets.{net-at, first-at, barred-at}
 use Rattle.drawings.proofs.Members.{kept-none}
 use Rattle.drawings.proofs.Locals.{local-free}
 use Rattle.drawings.proofs.Changed.{set-free, set-free-stays}
@@ -40,6 +42,7 @@ returns g c =
           };
           none-wired = kept-none (first-at e) (counting 0 (length e)) (λ k. ap is-first (all k));
           none-barred = kept-none (barred-at e) (counting 0 (length e)) (λ k. ap is-barred (all k));
+          none-used = kept-none (λ k. net-at e k && landing-at m k) (counting 0 (length e)) (λ k. ap (λ b. b && landing-at m k) (ap is-net (all k)));
         },
       );
       kept = tt;
