@@ -39,8 +39,9 @@ fn free_from(drawing: &mut [Record], first: u16) -> u16
         put(drawing, cell, Record::Free);
         cell = next;
     }
-    put(drawing, cell, Record::Free);
-    cell
+    let last = cell;
+    put(drawing, last, Record::Free);
+    last
 }
 
 // Takes up a net: frees the cells from its first cell on and gives back the last of them.
@@ -97,11 +98,7 @@ pub fn list_net(drawing: &[Record], first: u16, into: &mut [u16]) -> Option<usiz
     ensures { λ r. ⌜ Listed (now (drawing .entry)) first (now (into .entry)) (now (into .exit)) r ⌝ }
 {
     match net_length(drawing, first) {
-        Some(count) => if count <= into.len() {
-            Some(list_from(drawing, first, into))
-        } else {
-            None
-        },
-        None => None,
+        Some(count) if count <= into.len() => Some(list_from(drawing, first, into)),
+        _ => None,
     }
 }
