@@ -5,6 +5,8 @@ use drawings::calls::lift;
 use drawings::calls::new;
 use drawings::calls::show;
 use drawings::lawful::is_lawful;
+use drawings::nets::lay;
+use drawings::nets::take_up;
 use drawings::records::Record;
 use drawings::records::RecordPartialEq;
 use drawings::refusals::Refusal;
@@ -138,4 +140,15 @@ fn cleared_and_new() -> Result<(), Fail> {
     check_eq(new(&Ring, &mut broken[0..5]), Err(Refusal::WrongDrawing))?;
     check_eq(new(&Ring, &mut broken), Ok(0))?;
     check(broken == [FREE; 6])
+}
+
+#[test]
+fn taken_up_and_laid() -> Result<(), Fail> {
+    let mut drawing = [first(1), on(0, 2), last(1), ALONE, on(5, 5), on(4, 4)];
+    check_eq(take_up(&mut drawing, 4), None).note("a ring has no end")?;
+    check_eq(take_up(&mut drawing, 65535), None).note("no cell")?;
+    check_eq(take_up(&mut drawing, 0), Some(2))?;
+    check(drawing == [FREE, FREE, FREE, ALONE, on(5, 5), on(4, 4)])?;
+    lay(&mut drawing, &[0, 1, 2]);
+    check(drawing == [first(1), on(0, 2), last(1), ALONE, on(5, 5), on(4, 4)])
 }
