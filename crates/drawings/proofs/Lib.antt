@@ -9,3 +9,4 @@ pub mod Changed
 pub mod Freeing
 pub mod Linking
 pub mod Relaying
+pub mod Accepted

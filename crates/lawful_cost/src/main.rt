@@ -30,7 +30,13 @@ fn map(heap: Global, points: u16) -> io::Result<Vec<u8>>
     let mut bytes = Vec::new(heap);
     for k in 0..points {
         let last = k + 32 == points || k + 31 == points;
-        bytes.push(if k < 2 { 1 } else if last { 2 } else { 0 })?;
+        bytes.push(if k < 2 {
+            1
+        } else if last {
+            2
+        } else {
+            0
+        })?;
     }
     Ok(bytes)
 }
