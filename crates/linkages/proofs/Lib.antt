@@ -1,0 +1,14 @@
+pub mod Members
+pub mod Nexts
+pub mod Pigeons
+pub mod Walks
+pub mod Fewer
+pub mod OneFence
+pub mod SameMembers
+pub mod NetLists
+pub mod Wired
+pub mod SearchFence
+pub mod Places
+pub mod OnBoard
+pub mod Counting
+pub mod WorkedBoards
