@@ -4,6 +4,8 @@
 mod canvas;
 mod report;
 mod sheet;
+#[cfg(test)]
+mod tests;
 
 use report::report;
 use std::io;

@@ -28,31 +28,61 @@ pub fn report(heap: Global, text: &str) -> Result<String, AllocError> {
 }
 
 fn report_sheet(heap: Global, sheet: Sheet) -> Result<String, AllocError> {
-    let Sheet { kind, rows, columns, bytes } = sheet;
+    let Sheet {
+        kind,
+        rows,
+        columns,
+        bytes,
+    } = sheet;
     if let Err(refusal) = check_map(kind, rows, columns, bytes.as_slice()) {
         let number = refusal.number();
         let meaning = meaning(refusal);
         return format!(heap, "refused, {number}: {meaning}\n");
     }
     match kind {
-        MapKind::FieldMap => report_board(heap, &Field::new(rows, columns, bytes), "field", 2, rows, columns),
-        MapKind::EscapeMap => report_board(heap, &Escape::new(rows, columns, bytes), "escape", 1, rows, columns),
+        MapKind::FieldMap => report_board(
+            heap,
+            &Field::new(rows, columns, bytes),
+            "field",
+            2,
+            rows,
+            columns,
+        ),
+        MapKind::EscapeMap => report_board(
+            heap,
+            &Escape::new(rows, columns, bytes),
+            "escape",
+            1,
+            rows,
+            columns,
+        ),
     }
 }
 
 // The numbers of a board, and its picture.
-fn report_board<B: PlacedBoard>(heap: Global, board: &B, name: &str, layers: u16, rows: u16, columns: u16) -> Result<String, AllocError> {
+fn report_board<B: PlacedBoard>(
+    heap: Global,
+    board: &B,
+    name: &str,
+    layers: u16,
+    rows: u16,
+    columns: u16,
+) -> Result<String, AllocError> {
     let cells = board.cells();
     let pads = count_marked(board, Mark::Pad);
     let landings = count_marked(board, Mark::Landing);
     let picture = draw(heap, board, layers, rows, columns)?;
-    format!(heap, "{name} {rows} x {columns}: {cells} cells, {pads} pads, {landings} landings\n{picture}\n{LEGEND}\n")
+    format!(
+        heap,
+        "{name} {rows} x {columns}: {cells} cells, {pads} pads, {landings} landings\n{picture}\n{LEGEND}\n"
+    )
 }
 
 // A refusal in words.
 fn meaning(refusal: BoardRefusal) -> &'static str {
     match refusal {
-        BoardRefusal::Sides => "rows and columns are 1 to 64 each, and at most 2048 points together",
+        BoardRefusal::Sides =>
+            "rows and columns are 1 to 64 each, and at most 2048 points together",
         BoardRefusal::Length => "the map has not one byte for each point",
         BoardRefusal::Byte => "the map has a byte that means nothing on such a board",
         BoardRefusal::OffBoard => "a point or a cell is off the board",

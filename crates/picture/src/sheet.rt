@@ -1,4 +1,7 @@
 // A map as a text gives it.
+ghost use Rattle.std.specs.Of.Vec.{vec-items};
+ghost use Rattle.std.specs.Vec.{made};
+ghost use Rattle.picture.specs.Rows.{Reads-row};
 use boards::maps::MapKind;
 use std::alloc::AllocError;
 use std::alloc::Global;
@@ -37,8 +40,14 @@ impl<T: Drop> From<Refused<T>> for SheetError as SheetErrorFromRefused {
 pub impl fmt::Display for SheetError as SheetErrorDisplay {
     fn fmt<W: fmt::Write>(&self, f: &mut fmt::Formatter<W>) -> fmt::Result {
         match self {
-            SheetError::Header => write!(f, "line 1: expected 'field R C' or 'escape R C', with R rows and C columns"),
-            SheetError::Row { line, columns } => write!(f, "line {line}: expected {columns} digits, one for each column"),
+            SheetError::Header => write!(
+                f,
+                "line 1: expected 'field R C' or 'escape R C', with R rows and C columns"
+            ),
+            SheetError::Row { line, columns } => write!(
+                f,
+                "line {line}: expected {columns} digits, one for each column"
+            ),
             SheetError::Memory => write!(f, "out of memory"),
         }
     }
@@ -52,11 +61,19 @@ pub fn read_sheet(heap: Global, text: &str) -> Result<Sheet, SheetError> {
     };
     let mut bytes = Vec::new(heap);
     for (i, row) in lines.enumerate() {
-        if !read_row(&mut bytes, row, columns)? {
-            return Err(SheetError::Row { line: i.saturating_add(2), columns });
+        if !read_row(&mut bytes, row.as_bytes(), columns)? {
+            return Err(SheetError::Row {
+                line: i.saturating_add(2),
+                columns,
+            });
         }
     }
-    Ok(Sheet { kind, rows, columns, bytes })
+    Ok(Sheet {
+        kind,
+        rows,
+        columns,
+        bytes,
+    })
 }
 
 fn read_header(line: &str) -> Option<(MapKind, u16, u16)> {
@@ -79,15 +96,17 @@ fn read_kind(word: &str) -> Option<MapKind> {
 }
 
 // Adds the digits of a row; false if it has not one digit for each column.
-fn read_row(bytes: &mut Vec<u8>, row: &str, columns: u16) -> Result<bool, AllocError> {
+fn read_row(bytes: &mut Vec<u8>, row: &[u8], columns: u16) -> Result<bool, AllocError>
+    ensures { λ r. ⌜ made r (λ ok. Reads-row columns (now (row .entry)) (vec-items (now (bytes .entry))) (vec-items (now (bytes .exit))) ok) ⌝ }
+{
     if row.len() != columns as usize {
         return Ok(false);
     }
-    for byte in row.bytes() {
-        match byte {
-            b'0'..=b'9' => bytes.push(byte - b'0')?,
-            _ => return Ok(false),
+    for byte in row {
+        if *byte < b'0' || *byte > b'9' {
+            return Ok(false);
         }
+        bytes.push(*byte - b'0')?;
     }
     Ok(true)
 }
