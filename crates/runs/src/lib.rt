@@ -1,0 +1,2 @@
+// Runs of calls: any list of place, lift, bar and clear on one drawing, and what holds of all of them.
+pub mod calls;
