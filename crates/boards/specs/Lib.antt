@@ -1,3 +1,12 @@
 pub mod Meaning
 pub mod Places
 pub mod Refusals
+pub mod Numbers
+pub mod Grids
+pub mod Maps
+pub mod MapMade
+pub mod Fields
+pub mod Escapes
+pub mod KeepOuts
+pub mod Counts
+pub mod SmallBoards

@@ -57,3 +57,7 @@ board-of n outlets pad landing = record {
   pads = map pad (counting 0 n);
   landings = map landing (counting 0 n);
 }
+
+-- no outlet leads into a pad
+abbrev pub No-way-in : Meaning → Type 0
+No-way-in m = (c j d : ℕ) → outlet-at m c j ≡ Some d → pad-at m d ≡ false

@@ -11,7 +11,7 @@ use Rattle.boards.specs.declared.place.Step.{Step}
 use Rattle.boards.specs.declared.place.Step.the-variants.{North, East, South, West, Down, Up}
 use Rattle.boards.specs.Meaning.{Meaning, when, outlet-at}
 
-abbrev nowhere : Place
+abbrev pub nowhere : Place
 nowhere = record { layer = 0; row = 0; column = 0 }
 
 -- the place of a cell; a number that is no cell has none
