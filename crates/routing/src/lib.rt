@@ -1,0 +1,2 @@
+// Routing: finding a way for a pad past the nets of a drawing, or the fence that shows that there is none.
+pub mod search;
