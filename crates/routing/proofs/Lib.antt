@@ -1,1 +1,3 @@
 pub mod Noting
+pub mod Exits
+pub mod Scans
