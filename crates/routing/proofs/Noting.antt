@@ -20,6 +20,10 @@ use Rattle.drawings.proofs.Cells.{length-below}
 use Rattle.rewiring.specs.Trails.{Enters}
 use Rattle.routing.specs.Searches.{Notes, notes, was-entered, cell-at, from-at, open-at, entered-also, visited, Searching, None-open, Closed}
 
+pub same-notes : {E E′ Q Q′ F F′ : List ℕ} {k k′ : ℕ} → E ≡ E′ → Q ≡ Q′ → F ≡ F′ → k ≡ k′ → notes E Q F k ≡ notes E′ Q′ F′ k′
+same-notes {E} {E′} {Q} {Q′} {F} {F′} {k} {k′} e q f n =
+    ap (λ x. notes x Q F k) e ∙ (ap (λ x. notes E′ x F k) q ∙ (ap (λ x. notes E′ Q′ x k) f ∙ ap (notes E′ Q′ F′) n))
+
 -- ---- marks
 
 pub entered-inside : (xs : List ℕ) (c : ℕ) → was-entered xs c ≡ true → c < length xs
