@@ -1,1 +1,3 @@
 pub mod Searches
+pub mod Courses
+pub mod Showing

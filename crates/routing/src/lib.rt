@@ -1,2 +1,4 @@
 // Routing: finding a way for a pad past the nets of a drawing, or the fence that shows that there is none.
+pub mod fence;
 pub mod search;
+pub mod trace;
