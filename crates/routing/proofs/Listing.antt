@@ -2,12 +2,13 @@
 use mathlib.Core.Path.{_≡_, refl, sym, ap, _∙_}
 use mathlib.Core.Bool.{Bool, true, false, cond}
 use mathlib.Core.List.{List, [], _∷_, _++_}
-use Prim.Native.Nat.{ℕ, _+_, _≤_, _<_}
+use Prim.Native.Nat.{ℕ, _+_, _-_, _≤_, _<_}
 use native.Mathlib.Omega.{arith}
 use lib.ListN.{length, getD, set, take, drop}
 use Rattle.std.specs.Iters.{counting}
 use Rattle.std.specs.shelf.Lists.{kept-by}
-use Rattle.std.proofs.shelf.Lists.{append-assoc, append-nil, drop-more, drop-drop, drop-at, take-at, set-at, length-push, length-append}
+use Rattle.std.proofs.shelf.Lists.{append-assoc, append-nil, drop-more, drop-drop, drop-at, take-at, set-at, take-rest, drop-all, length-push, length-append, length-drop}
+use borrow.Rule.Slice.PartMut.{putMid}
 use Rattle.drawings.specs.Changes.{written}
 use Rattle.drawings.proofs.Cells.{kept-below-more}
 
@@ -45,3 +46,14 @@ module _ (p : ℕ → Bool) (n : ℕ) (was now : List ℕ) (count : ℕ)
       let xs = kept-by p (counting 0 n) in
       let more : kept-by p (counting 0 (n + 1)) ≡ xs = kept-below-more p n ∙ (ap (λ b. xs ++ cond b (n ∷ []) []) e ∙ append-nil xs) in
       (long ∙ sym (ap length more), same ∙ sym (ap (λ zs. written zs was) more))
+
+-- a second list written to what comes after a first
+pub written-part : (A X R R₁ Y : List ℕ) (a : ℕ) → a ≡ length A → R₁ ≡ written A R → Y ≡ written X (take (length R₁ - a) (drop a R₁)) →
+    putMid a (length R₁ - a) R₁ Y ≡ written (A ++ X) R
+written-part A X R R₁ Y a long same wrote =
+    let front : take a R₁ ≡ A = ap (take a) same ∙ take-at A (drop (length A) R) a (sym long) in
+    let back : drop a R₁ ≡ drop (length A) R = ap (drop a) same ∙ drop-at A (drop (length A) R) a (sym long) in
+    let none : drop (length R₁ - a) (drop a R₁) ≡ [] = drop-all (length R₁ - a) (drop a R₁) (simp length-drop (omega arith)) in
+    let part : Y ≡ written X (drop (length A) R) = wrote ∙ ap (written X) (take-rest R₁ a ∙ back) in
+    ap (λ zs. zs ++ (Y ++ drop (length R₁ - a) (drop a R₁))) front ∙
+    (ap (λ zs. A ++ (Y ++ zs)) none ∙ (ap (λ zs. A ++ zs) (append-nil Y ∙ part) ∙ written-two A X R))

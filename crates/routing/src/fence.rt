@@ -95,7 +95,7 @@ pub fn write_fence(
         ≡ written (shown-pads (now (drawing .entry)) (now (entered .entry)) start ++ shown-cells (now (drawing .entry)) (now (entered .entry))) (now (report .entry)) ⌝ }
 {
     let pads = write_pads(drawing, entered, start, report);
-    let (_, rest) = report.split_at_mut(pads as usize);
-    let cells = write_cells(drawing, entered, rest);
+    let end = report.len();
+    let cells = write_cells(drawing, entered, &mut report[pads as usize..end]);
     (pads, cells)
 }
