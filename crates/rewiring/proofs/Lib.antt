@@ -1,0 +1,2 @@
+pub mod Relinks
+pub mod Stages
