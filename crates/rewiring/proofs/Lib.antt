@@ -1,2 +1,3 @@
 pub mod Relinks
 pub mod Stages
+pub mod Steps
