@@ -1,3 +1,5 @@
 pub mod Relinks
 pub mod Stages
 pub mod Steps
+pub mod Courses
+pub mod Sweeping
