@@ -45,7 +45,7 @@ module _ (m : Meaning) (d : List Record) (p z : ℕ) (ts : List ℕ) (T : Trail 
       let h = has-from-mem ts z (T .ends) in
       ⊎-elim
       (λ (l : h .0 + 1 < length ts). absurd (T .end-is-last (getD ts (h .0 + 1) 0)
-          (subst (λ (c : ℕ). Next c (getD ts (h .0 + 1) 0) ts) (h .2 0) (by-places .next-from ts (h .0) l))))
+      (subst (λ (c : ℕ). Next c (getD ts (h .0 + 1) 0) ts) (h .2 0) (by-places .next-from ts (h .0) l))))
       (λ l. let e : length ts - 1 ≡ h .0 = omega (arith, h .1) in ap (λ (k : ℕ). getD ts k 0) e ∙ h .2 0)
       (cases-lt (h .0 + 1) (length ts))
 
@@ -83,7 +83,7 @@ module _ (m : Meaning) (d : List Record) (p z : ℕ) (ts : List ℕ) (T : Trail 
         let N : Next s t ts = subst (λ (j : ℕ). Next s (getD ts j 0) ts) same (by-places .next-from ts k (omega (arith, B .inside))) in
         let mem = on-trail k on in
         let S = step m d z e s t (B .stage) (differ-at k i less (B .inside)) (B .ahead k less) (T .inside s mem) (T .unbarred s mem) (T .enters s t N)
-            (λ l n. T .end-is-last t (subst (λ (c : ℕ). Next c t ts) (T .one-landing s mem l n) N)) in
+        (λ l n. T .end-is-last t (subst (λ (c : ℕ). Next c t ts) (T .one-landing s mem l n) N)) in
         record {
           inside = on;
           stage = S .stage;
@@ -145,9 +145,9 @@ module _ (m : Meaning) (d : List Record) (p z : ℕ) (ts : List ℕ) (T : Trail 
       still-used c i = elim (mem-cases i) [
         | inl g ↦ used-in c (ap (landing-at m) g ∙ T .end-is-landing) (or-right (net-at d c) (eqb c z) (eq-eqb c z g))
         | inr k ↦ (
-          let h = and-parts (net-at d c) (landing-at m c) (kept-below (λ j. net-at d j && landing-at m j) (length d) c k .1) in
-          used-in c (h .1) (or-left (net-at d c) (eqb c z) (h .0))
-        )
+            let h = and-parts (net-at d c) (landing-at m c) (kept-below (λ j. net-at d j && landing-at m j) (length d) c k .1) in
+            used-in c (h .1) (or-left (net-at d c) (eqb c z) (h .0))
+            )
       ]
 
       pub back-to-pad : Opened m d e p z

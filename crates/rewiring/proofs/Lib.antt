@@ -3,3 +3,4 @@ pub mod Stages
 pub mod Steps
 pub mod Courses
 pub mod Sweeping
+pub mod Marking

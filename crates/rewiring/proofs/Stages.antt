@@ -92,12 +92,12 @@ module _ (m : Meaning) (d : List Record) (z : ℕ) (e f : List Record) (s t u : 
     names-back = λ c x h. ⊎-elim
         (λ (g : c ≡ u). absurd (none-not-some (sym (R .after-is) ∙ sym (ap (after-at f) g) ∙ h)))
         (λ n. let k = S .names-back c x (sym (R .afters c n) ∙ h) in
-            R .befores x (λ g. n (some-same (sym (ap (before-at e) g) ∙ k) (S .names-back u s q))) ∙ k)
+        R .befores x (λ g. n (some-same (sym (ap (before-at e) g) ∙ k) (S .names-back u s q))) ∙ k)
         (cases-eq c u);
     names-on = λ c x h. ⊎-elim
         (λ (g : c ≡ s). absurd (none-not-some (sym (R .before-is) ∙ sym (ap (before-at f) g) ∙ h)))
         (λ n. let k = S .names-on c x (sym (R .befores c n) ∙ h) in
-            R .afters x (λ g. n (some-same (sym (ap (after-at e) g) ∙ k) q)) ∙ k)
+        R .afters x (λ g. n (some-same (sym (ap (after-at e) g) ∙ k) q)) ∙ k)
         (cases-eq c s);
     landings = λ c l. R .nets c ∙ S .landings c l;
   }
@@ -140,12 +140,12 @@ module _ (m : Meaning) (d : List Record) (z : ℕ) (e f : List Record) (s t u : 
     names-back = λ c x h. ⊎-elim
         (λ (g : c ≡ u). ap (before-at f) (some-same (sym (ap (after-at f) g) ∙ h) (R .after-is)) ∙ R .before-is ∙ ap Some (sym g))
         (λ n. let k = S .names-back c x (sym (R .afters c n) ∙ h) in
-            R .befores x (λ g. none-not-some (sym (first-none (record-at e t) (S .first t (there (here refl)))) ∙ sym (ap (before-at e) g) ∙ k)) ∙ k)
+        R .befores x (λ g. none-not-some (sym (first-none (record-at e t) (S .first t (there (here refl)))) ∙ sym (ap (before-at e) g) ∙ k)) ∙ k)
         (cases-eq c u);
     names-on = λ c x h. ⊎-elim
         (λ (g : c ≡ t). ap (after-at f) (some-same (sym (ap (before-at f) g) ∙ h) (R .before-is)) ∙ R .after-is ∙ ap Some (sym g))
         (λ n. let k = S .names-on c x (sym (R .befores c n) ∙ h) in
-            R .afters x (λ g. none-not-some (sym (last-net (record-at e u) (S .last u (here refl)) .1) ∙ sym (ap (after-at e) g) ∙ k)) ∙ k)
+        R .afters x (λ g. none-not-some (sym (last-net (record-at e u) (S .last u (here refl)) .1) ∙ sym (ap (after-at e) g) ∙ k)) ∙ k)
         (cases-eq c t);
     landings = λ c l. R .nets c ∙ S .landings c l;
   }
@@ -192,12 +192,12 @@ module _ (m : Meaning) (d : List Record) (z : ℕ) (e f : List Record) (s t : �
     names-back = λ c x h. ⊎-elim
         (λ (g : c ≡ s). absurd (none-not-some (sym (ap after-of here-is) ∙ sym (ap (after-at f) g) ∙ h)))
         (λ n. let k = S .names-back c x (sym (ap after-of (others c n)) ∙ h) in
-            ap before-of (others x (λ g. none-not-some (sym (ap before-of free) ∙ sym (ap (before-at e) g) ∙ k))) ∙ k)
+        ap before-of (others x (λ g. none-not-some (sym (ap before-of free) ∙ sym (ap (before-at e) g) ∙ k))) ∙ k)
         (cases-eq c s);
     names-on = λ c x h. ⊎-elim
         (λ (g : c ≡ s). absurd (none-not-some (sym (ap before-of here-is) ∙ sym (ap (before-at f) g) ∙ h)))
         (λ n. let k = S .names-on c x (sym (ap before-of (others c n)) ∙ h) in
-            ap after-of (others x (λ g. none-not-some (sym (ap after-of free) ∙ sym (ap (after-at e) g) ∙ k))) ∙ k)
+        ap after-of (others x (λ g. none-not-some (sym (ap after-of free) ∙ sym (ap (after-at e) g) ∙ k))) ∙ k)
         (cases-eq c s);
     landings = λ c l. ap is-net (others c (λ g. both-ways (landing-at m c) (ap (landing-at m) g ∙ dry) l)) ∙ S .landings c l;
   }
@@ -212,7 +212,7 @@ module _ (m : Meaning) (d : List Record) (z : ℕ) (e f : List Record) (s t : �
     long = long ∙ S .long;
     bars = λ c. ⊎-elim
         (λ (g : c ≡ t). ap (barred-at f) g ∙ ap is-barred free ∙
-            sym (net-unbarred (record-at e c) (first-net (record-at e c) (S .first c (there (here g))))) ∙ S .bars c)
+        sym (net-unbarred (record-at e c) (first-net (record-at e c) (S .first c (there (here g))))) ∙ S .bars c)
         (λ n. ap is-barred (others c n) ∙ S .bars c)
         (cases-eq c t);
     firsts = λ c h. ⊎-elim
@@ -245,12 +245,12 @@ module _ (m : Meaning) (d : List Record) (z : ℕ) (e f : List Record) (s t : �
     names-back = λ c x h. ⊎-elim
         (λ (g : c ≡ t). absurd (none-not-some (sym (ap after-of free) ∙ sym (ap (after-at f) g) ∙ h)))
         (λ n. let k = S .names-back c x (sym (ap after-of (others c n)) ∙ h) in
-            ap before-of (others x (λ g. none-not-some (sym (first-none (record-at e t) (S .first t (there (here refl)))) ∙ sym (ap (before-at e) g) ∙ k))) ∙ k)
+        ap before-of (others x (λ g. none-not-some (sym (first-none (record-at e t) (S .first t (there (here refl)))) ∙ sym (ap (before-at e) g) ∙ k))) ∙ k)
         (cases-eq c t);
     names-on = λ c x h. ⊎-elim
         (λ (g : c ≡ t). absurd (none-not-some (sym (ap before-of free) ∙ sym (ap (before-at f) g) ∙ h)))
         (λ n. let k = S .names-on c x (sym (ap before-of (others c n)) ∙ h) in
-            ap after-of (others x (λ g. none-not-some (sym (last-net (record-at e t) (S .last t (here refl)) .1) ∙ sym (ap (after-at e) g) ∙ k))) ∙ k)
+        ap after-of (others x (λ g. none-not-some (sym (last-net (record-at e t) (S .last t (here refl)) .1) ∙ sym (ap (after-at e) g) ∙ k))) ∙ k)
         (cases-eq c t);
     landings = λ c l. ap is-net (others c (λ g. both-ways (landing-at m c) (S .no-landing c (here g)) l)) ∙ S .landings c l;
   }

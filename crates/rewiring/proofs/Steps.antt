@@ -101,12 +101,12 @@ module _ (m : Meaning) (d : List Record) (z : ℕ) (e : List Record) (s t : ℕ)
         | inl k ↦
             let n : net-at d s ≡ false = ap is-net (k .0) in
             let r = off inside (free-if (record-at e s) (same .1 ∙ n) (S .bars s ∙ free))
-                (⊎-elim (λ l. absurd (dry l n)) (λ l. l) (cases-bool (landing-at m s))) (ap is-first (k .0))
-                (elim (h .2) [ inl g ↦ absurd (ne (k .1 ∙ g)) | inr o ↦ subst (λ c. Mem t (outlets-of m c)) (sym (k .1)) o ]) in
+            (⊎-elim (λ l. absurd (dry l n)) (λ l. l) (cases-bool (landing-at m s))) (ap is-first (k .0))
+            (elim (h .2) [ inl g ↦ absurd (ne (k .1 ∙ g)) | inr o ↦ subst (λ c. Mem t (outlets-of m c)) (sym (k .1)) o ]) in
             subst (λ b. Step m d z e (moved-by b e s t) s t) (sym (same .0 ∙ ap before-of (k .0))) r
         | inr b ↦
             let r = on u (same .0 ∙ b) (before-net (record-at d s) u b .1) (cases-eq u t)
-                (λ n. elim (h .2) [ inl g ↦ absurd (n g) | inr o ↦ o ]) in
+            (λ n. elim (h .2) [ inl g ↦ absurd (n g) | inr o ↦ o ]) in
             subst (λ c. Step m d z e (moved-by c e s t) s t) (sym (same .0 ∙ b)) r
       ]
 
@@ -158,12 +158,12 @@ module _ (m : Meaning) (d : List Record) (z : ℕ) (W : Lawful m d) (inside : z 
       names-back = λ c x h. ⊎-elim
           (λ (g : c ≡ z). absurd (none-not-some (sym (ap after-of at-z) ∙ sym (ap (after-at (alone d z)) g) ∙ h)))
           (λ n. let k = W .local c .after-names-back x (sym (ap after-of (away c n)) ∙ h) in
-              ap before-of (away x (λ g. none-not-some (sym (ap before-of none) ∙ sym (ap (before-at d) g) ∙ k))) ∙ k)
+          ap before-of (away x (λ g. none-not-some (sym (ap before-of none) ∙ sym (ap (before-at d) g) ∙ k))) ∙ k)
           (cases-eq c z);
       names-on = λ c x h. ⊎-elim
           (λ (g : c ≡ z). absurd (none-not-some (sym (ap before-of at-z) ∙ sym (ap (before-at (alone d z)) g) ∙ h)))
           (λ n. let k = W .local c .before-names-on x (sym (ap before-of (away c n)) ∙ h) in
-              ap after-of (away x (λ g. none-not-some (sym (ap after-of none) ∙ sym (ap (after-at d) g) ∙ k))) ∙ k)
+          ap after-of (away x (λ g. none-not-some (sym (ap after-of none) ∙ sym (ap (after-at d) g) ∙ k))) ∙ k)
           (cases-eq c z);
       landings = λ c l. ⊎-elim
           (λ (g : c ≡ z). ap (net-at (alone d z)) g ∙ ap is-net at-z ∙ sym (or-right (net-at d c) (eqb c z) (eq-eqb c z g)))

