@@ -114,6 +114,6 @@ module _ (m : Meaning) (d : List Record) (W : Lawful m d) where
     net-cells = λ c xs i j. run-net (nets-run xs i) j;
     next-is-after = λ u t xs i n. next-after (nets-run xs i) n;
     after-is-next = λ u t q.
-      let k = on-net u (after-net (record-at d u) t q .0) in
-      (net d (k .0), mem-map (net d) (k .1), after-next (wired-runs (k .0) (k .1)) (k .2) q);
+        let k = on-net u (after-net (record-at d u) t q .0) in
+        (net d (k .0), mem-map (net d) (k .1), after-next (wired-runs (k .0) (k .1)) (k .2) q);
   }

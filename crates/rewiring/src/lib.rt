@@ -1,7 +1,7 @@
 // Rewiring a drawing along a trail that a search found.
-ghost use Rattle.rewiring.specs.Trails.{Trail, Rewired};
-
-// Whether the trail is worth following: a placeholder until the crate has its first call.
-pub fn none() -> u8 {
-    0
-}
+//
+// The trail is taken back from its landing to its pad, moving wires as need be. That can leave rings, cut off from every pad,
+// and a sweep frees them.
+pub mod moves;
+pub mod rewire;
+pub mod sweep;
