@@ -1,0 +1,6 @@
+pub mod Noting
+pub mod Exits
+pub mod Scans
+pub mod Listing
+pub mod Trailing
+pub mod Shown

@@ -1,0 +1,19 @@
+-- The conditions under which a call that searches is refused, by number.
+use mathlib.Core.Path.{_≡_}
+use mathlib.Core.List.{List, _∷_}
+use mathlib.Core.Logic.{_⊎_}
+use Prim.Native.Nat.{ℕ}
+use Rattle.boards.specs.Meaning.{Meaning}
+use Rattle.drawings.specs.declared.records.Record.{Record}
+use Rattle.drawings.specs.Nets.{wired, bars}
+use Rattle.drawings.specs.Conditions.{Wrong-drawing, Short-work, Short-report, Not-lawful, No-such-cell, Not-pad, Is-wired, Is-barred, No-way}
+
+-- those that place looks at before it searches
+abbrev pub Place-stopped : Meaning → List Record → List ℕ → List ℕ → ℕ → ℕ → Type 0
+Place-stopped m d work report c n =
+    ((n ≡ 1) × Wrong-drawing m d) ⊎ (((n ≡ 2) × Short-work m work) ⊎ (((n ≡ 3) × Short-report m report) ⊎ (((n ≡ 4) × Not-lawful m d)
+    ⊎ (((n ≡ 5) × No-such-cell m c) ⊎ (((n ≡ 6) × Not-pad m c) ⊎ (((n ≡ 7) × Is-wired d c) ⊎ ((n ≡ 9) × Is-barred d c)))))))
+
+-- and the last: the wired pads and this one cannot all be met
+abbrev pub Place-refused : Meaning → List Record → List ℕ → List ℕ → ℕ → ℕ → Type 0
+Place-refused m d work report c n = Place-stopped m d work report c n ⊎ ((n ≡ 12) × No-way m (bars d) (c ∷ wired d))

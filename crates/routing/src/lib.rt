@@ -1,0 +1,6 @@
+// Routing: finding a way for a pad past the nets of a drawing, or the fence that shows that there is none.
+pub mod calls;
+pub mod fence;
+pub mod route;
+pub mod search;
+pub mod trace;
