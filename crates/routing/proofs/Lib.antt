@@ -4,3 +4,4 @@ pub mod Scans
 pub mod Listing
 pub mod Trailing
 pub mod Shown
+pub mod Routes
