@@ -5,3 +5,4 @@ pub mod Listing
 pub mod Trailing
 pub mod Shown
 pub mod Routes
+pub mod Answering
