@@ -56,7 +56,7 @@ returns-in-Ok g c =
     record {
       answer = (
         none-holds (Place-stopped m d (c .args .work .now) (c .args .report .now) (c .args .cell)) (No-way m (bars d) (c .args .cell ∷ wired d)) (R .0)
-        (λ no. no (can-be-met m d (c .route-within-found .last .drawing) (c .args .cell) (c .in-Ok .landing) (w .0))),
+            (λ no. no (can-be-met m d (c .route-within-found .last .drawing) (c .args .cell) (c .in-Ok .landing) (w .0))),
         record {
           wired-also = w .0;
           zeroed = zeroed m (c .args .work .now) (c .route-within-found .last .work) (c .zero .last .numbers) n (n - 0) (ap (λ i. 4 * i) (c .cells .ensures)) (omega arith)

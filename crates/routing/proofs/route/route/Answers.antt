@@ -18,8 +18,11 @@ search-found-requires g c κs =
       entered-long = omega (arith, c .zero .kept .numbers, c .pre .entered-long);
       queue-long = c .pre .queue-long;
       from-long = c .pre .from-long;
-      inside = omega (arith, c .pre .lawful .one-each,
-          pad-inside (g .B·Board .meaning (c .args .board .now)) (c .args .drawing .now) (c .args .pad) (c .pre .is-pad) (c .pre .unwired) B (c .pre .lawful) (c .pre .unbarred));
+      inside = omega (
+        arith,
+        c .pre .lawful .one-each,
+        pad-inside (g .B·Board .meaning (c .args .board .now)) (c .args .drawing .now) (c .args .pad) (c .pre .is-pad) (c .pre .unwired) B (c .pre .lawful) (c .pre .unbarred),
+      );
       unbarred = c .pre .unbarred;
     }
 
@@ -32,8 +35,13 @@ rewire-requires g c κs =
     let T : Came m d p s (c .in-Some .landing) = subst (Ended m d p s) (c .in-Some .is) (c .search-found .ensures) in
     record {
       lawful = c .pre .lawful;
-      trail = (p, (c .in-Some .landing,
-          written-trail m d p (c .pre .is-pad) (c .pre .unwired) s (c .in-Some .landing) (c .trace-first .last .trail) (c .trace-first .result) T (c .trace-first .ensures .course)));
+      trail = (
+        p,
+        (
+          c .in-Some .landing,
+          written-trail m d p (c .pre .is-pad) (c .pre .unwired) s (c .in-Some .landing) (c .trace-first .last .trail) (c .trace-first .result) T (c .trace-first .ensures .course),
+        ),
+      );
       room = omega (arith, c .search-found .kept .entered, c .zero .kept .numbers, c .pre .entered-long);
     }
 
@@ -60,9 +68,11 @@ returns-in-None g c =
     let s = notes E (c .search-found .last .queue) (c .search-found .last .from) (c .search-found .result .1) in
     let F = subst (Ended m d p s) (c .in-None .is) (c .search-found .ensures) in
     record {
-      routed = (refl,
-          fence-shown m d p (c .pre .is-pad) (c .pre .unwired) (g .B·Board·met .bounded (c .args .board .now)) (c .pre .lawful) (c .pre .unbarred) E F
-          (c .args .report .now) (c .write-fence .last .report) (c .write-fence .result .0) (c .write-fence .result .1)
-          (c .write-fence .ensures .pads) (c .write-fence .ensures .cells) (c .write-fence .ensures .writes));
+      routed = (
+        refl,
+        fence-shown m d p (c .pre .is-pad) (c .pre .unwired) (g .B·Board·met .bounded (c .args .board .now)) (c .pre .lawful) (c .pre .unbarred) E F
+            (c .args .report .now) (c .write-fence .last .report) (c .write-fence .result .0) (c .write-fence .result .1)
+            (c .write-fence .ensures .pads) (c .write-fence .ensures .cells) (c .write-fence .ensures .writes),
+      );
       spared = refl;
     }
