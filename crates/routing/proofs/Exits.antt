@@ -93,7 +93,6 @@ module _ (m : Meaning) (d : List Record) (W : Lawful m d) where
       (λ _ f. ap (open-at m d) f ∙ h)
       (λ _ f. net-not-open (record-at d u) (landing-at m u) (before-is-net t u f))
 
-
   pub off-nets-at : (c : ℕ) → net-at d c ≡ false → OffNets (nets d) c
   off-nets-at c e xs i k = both-ways (net-at d c) e (linked m d W .net-cells c xs i k)
 

@@ -4,3 +4,5 @@ pub mod Scans
 pub mod Listing
 pub mod Trailing
 pub mod Shown
+pub mod Routes
+pub mod Answering

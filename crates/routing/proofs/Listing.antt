@@ -36,7 +36,7 @@ module _ (p : ℕ → Bool) (n : ℕ) (was now : List ℕ) (count : ℕ)
       let more : kept-by p (counting 0 (n + 1)) ≡ xs ++ n ∷ [] = kept-below-more p n ∙ ap (λ b. xs ++ cond b (n ∷ []) []) e in (
         ap (λ k. k + 1) long ∙ (sym (length-push xs n) ∙ sym (ap length more)),
         ap (λ zs. set zs count n) same ∙ (ap (λ k. set (written xs was) k n) long ∙
-        (written-more xs was n (omega arith) ∙ sym (ap (λ zs. written zs was) more))),
+            (written-more xs was n (omega arith) ∙ sym (ap (λ zs. written zs was) more))),
       )
 
   -- one that does not

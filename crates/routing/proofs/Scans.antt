@@ -76,19 +76,20 @@ module _ (m : Meaning) (B : Bounded m) (d : List Record) (W : Lawful m d) (p : �
         let S = w .searching in
         let t = cell-at s k in
         let l = exits.exit-inside m d W t u (note.cell-inside m d p s S k i) e in
-        let same = note.visit-cell m d p s S k u k i in
-        (l, record {
-          searching = note.visit-searching m d p s S k u l i (λ _. back e);
-          none-open = note.visit-none-open m d p s S k u l (w .none-open) (exits.exit-not-open m d W t u (w .none-open k i) e);
-          closed = note.visit-closed m d p s S k u k (w .inside) (w .closed);
-          inside = omega (arith, note.visit-count m d p s S k u);
-          exit = subst (λ v. exit-of (record-at d v) v ≡ Some u) (sym same) e;
-          back = note.visit-enters m d p s S k u l (exits.exit-unbarred m d W t u (S .unbarred k i) e);
-          scanned = λ i t h. absurd (not-suc-le-zero h);
-        })
+        let same = note.visit-cell m d p s S k u k i in (
+          l,
+          record {
+            searching = note.visit-searching m d p s S k u l i (λ _. back e);
+            none-open = note.visit-none-open m d p s S k u l (w .none-open) (exits.exit-not-open m d W t u (w .none-open k i) e);
+            closed = note.visit-closed m d p s S k u k (w .inside) (w .closed);
+            inside = omega (arith, note.visit-count m d p s S k u);
+            exit = subst (λ v. exit-of (record-at d v) v ≡ Some u) (sym same) e;
+            back = note.visit-enters m d p s S k u l (exits.exit-unbarred m d W t u (S .unbarred k i) e);
+            scanned = λ i t h. absurd (not-suc-le-zero h);
+          },
+        )
 
     module _ (j : ℕ) (w : Scanning m d p s k u j) where
-
       pub scan-more : (c : ℕ) → outlet-at m u j ≡ Some c → c < length d → open-at m d c ≡ false → Scanning m d p (visited d s k c) k u (j + 1)
       scan-more c o l shut =
           let S = w .searching in

@@ -88,28 +88,28 @@ module _ (m : Meaning) (d : List Record) (W : Lawful m d) (p : ℕ) (l : p < len
     pads-differ = distinct-kept-below (shows-pad d E p) (length d);
     cells-differ = distinct-kept-below (shows-cell d E) (length d);
     pads-only = λ c k.
-      let h = kept-below (shows-pad d E p) (length d) c k in
-      let q = and-parts (was-entered E c) (eqb c p || first-at d c) (h .1) in
-      (pad-back c (h .0) (q .1), q .0);
+        let h = kept-below (shows-pad d E p) (length d) c k in
+        let q = and-parts (was-entered E c) (eqb c p || first-at d c) (h .1) in
+        (pad-back c (h .0) (q .1), q .0);
     pads-all = λ c k e. let h = pad-cell c k in
-      below-kept (shows-pad d E p) (length d) c (h .0) (and-from (was-entered E c) (eqb c p || first-at d c) e (h .1));
+        below-kept (shows-pad d E p) (length d) c (h .0) (and-from (was-entered E c) (eqb c p || first-at d c) e (h .1));
     cells-only = λ c k.
-      let h = kept-below (shows-cell d E) (length d) c k in
-      let q = and-parts (was-entered E c) (no-further E (record-at d c)) (h .1) in
-      let o = linked m d W .on-a-net c (further-net E (record-at d c) (q .1)) in
-      record {
-        net = o .0;
-        laid = o .1;
-        on = o .2;
-        came = q .0;
-        no-further = λ t n e. both-ways (was-entered E t)
-            (further-none E (record-at d c) t (q .1) (linked m d W .next-is-after c t (o .0) (o .1) n)) e;
-      };
+        let h = kept-below (shows-cell d E) (length d) c k in
+        let q = and-parts (was-entered E c) (no-further E (record-at d c)) (h .1) in
+        let o = linked m d W .on-a-net c (further-net E (record-at d c) (q .1)) in
+        record {
+          net = o .0;
+          laid = o .1;
+          on = o .2;
+          came = q .0;
+          no-further = λ t n e. both-ways (was-entered E t)
+              (further-none E (record-at d c) t (q .1) (linked m d W .next-is-after c t (o .0) (o .1) n)) e;
+        };
     cells-all = λ c k.
-      let on = linked m d W .net-cells c (k .net) (k .laid) (k .on) in
-      below-kept (shows-cell d E) (length d) c (net-inside d c on) (and-from (was-entered E c) (no-further E (record-at d c)) (k .came)
-      (further-from E (record-at d c) on (λ t f e.
-      let n = linked m d W .after-is-next c t f in
-      let same = same-net m (bars d) (nets d) (linked m d W .wiring) (n .1) (k .laid) (next-left (n .2)) (k .on) in
-      k .no-further t (subst (Next c t) same (n .2)) e)));
+        let on = linked m d W .net-cells c (k .net) (k .laid) (k .on) in
+        below-kept (shows-cell d E) (length d) c (net-inside d c on) (and-from (was-entered E c) (no-further E (record-at d c)) (k .came)
+        (further-from E (record-at d c) on (λ t f e.
+        let n = linked m d W .after-is-next c t f in
+        let same = same-net m (bars d) (nets d) (linked m d W .wiring) (n .1) (k .laid) (next-left (n .2)) (k .on) in
+        k .no-further t (subst (Next c t) same (n .2)) e)));
   }

@@ -44,8 +44,8 @@ module _ (m : Meaning) (d : List Record) (p : ℕ) (s : Notes) (S : Searching m 
   course-distinct arrives = (mem-none, tt)
   course-distinct (comes {h = h} {i = i} pos e C) = (
     λ n. let q = course-place C n in
-    let l = course-inside C in
-    S .differ h (q .0) (omega (arith, q .1, S .earlier i pos (omega arith))) (omega (arith, q .2)) (q .3),
+        let l = course-inside C in
+        S .differ h (q .0) (omega (arith, q .1, S .earlier i pos (omega arith))) (omega (arith, q .2)) (q .3),
     course-distinct C,
   )
 

@@ -7,7 +7,7 @@ ghost use Rattle.std.specs.Vec.{refused};
 ghost use Rattle.boards.specs.Refusals.{Answer};
 ghost use Rattle.drawings.specs.Nets.{wired, bars};
 ghost use Rattle.drawings.specs.Numbers.{number-of};
-ghost use Rattle.routing.specs.Conditions.{Place-stopped, Place-refused};
+ghost use Rattle.routing.specs.Conditions.{Place-stopped, Placeable, Place-refused};
 ghost use Rattle.routing.specs.Outcomes.{Pad-placed, Fenced, Untouched, Leaves};
 ghost use mathlib.Core.List.{_∷_};
 use crate::route::route_within;
@@ -27,7 +27,7 @@ fn check_place<B: Board>(
     cell: u16,
 ) -> Result<(), Refusal>
     ensures { λ r. ⌜ Answer number-of (Place-stopped (meaning (now (board .entry))) (now (drawing .entry)) (now (work .entry)) (now (report .entry)) cell)
-        (λ _. Unit {0}) r ⌝ }
+        (λ _. Placeable (meaning (now (board .entry))) (now (drawing .entry)) (now (work .entry)) (now (report .entry)) cell) r ⌝ }
 {
     if drawing.len() != board.cells() as usize {
         return Err(Refusal::WrongDrawing);
@@ -70,9 +70,11 @@ pub fn place<B: Board>(
     ensures left { λ r. ⌜ refused r (Leaves
         (Untouched (now (drawing .entry)) (now (drawing .exit)) (now (work .entry)) (now (work .exit)) (now (report .entry)) (now (report .exit)))
         (Fenced (meaning (now (board .entry))) (now (drawing .entry)) (now (drawing .exit)) (bars (now (drawing .entry))) (cell ∷ wired (now (drawing .entry)))
-            (now (work .entry)) (now (work .exit)) (now (report .entry)) (now (report .exit)))) ⌝ }
+        (now (work .entry)) (now (work .exit)) (now (report .entry)) (now (report .exit)))) ⌝ }
 {
-    check_place(board, drawing, work, report, cell)?;
+    if let Err(refusal) = check_place(board, drawing, work, report, cell) {
+        return Err(refusal);
+    }
     let end = 4 * board.cells() as usize;
     let found = route_within(board, drawing, &mut work[0..end], report, cell);
     zero(&mut work[0..end]);

@@ -79,7 +79,7 @@ visit-count-requires-in-Some-outlet g c κs =
     }
 
 pub loop-j-again : need.loop-j-again
-loop-j-again g c = 
+loop-j-again g c =
     let m = g .B·Board .meaning (c .args .board .now) in
     let d = c .args .drawing .now in
     let p = c .args .start in
