@@ -21,6 +21,8 @@ use Rattle.drawings.specs.Records.{record-at, is-first, is-barred}
 use Rattle.drawings.specs.Nets.{first-at, barred-at, wired, bars, without}
 use Rattle.drawings.specs.Conditions.{Lift-refused, Clear-refused}
 use Rattle.drawings.proofs.Cells.{kept-below, below-kept}
+use Rattle.linkages.proofs.Fewer.{linkage-for-less}
+use Rattle.routing.specs.Conditions.{Place-refused}
 use Rattle.runs.specs.declared.calls.Kind.the-variants.{Place, Lift, Bar, Clear}
 use Rattle.runs.specs.Histories.{Book}
 use Rattle.runs.specs.Claim.{Refused}
@@ -104,3 +106,25 @@ module _ (m : Meaning) (d : List Record) (b : Book) (S : Standing m d b) (c : �
     pub clear-from-book : Refused m b Clear c work report n → Clear-refused m d c n
     clear-from-book (inl h) = inr (inr (inl h))
     clear-from-book (inr h) = inr (inr (inr (h .0, unbooked-bar (h .1))))
+
+    pub place-to-book : Place-refused m d work report c n → Refused m b Place c work report n
+    place-to-book (inl (inl h)) = absurd (h .1 (S .lawful .one-each))
+    place-to-book (inl (inr (inl h))) = inl (inl h)
+    place-to-book (inl (inr (inr (inl h)))) = inl (inr h)
+    place-to-book (inl (inr (inr (inr (inl h))))) = absurd (h .1 (S .lawful))
+    place-to-book (inl (inr (inr (inr (inr (inl h)))))) = inr (inl h)
+    place-to-book (inl (inr (inr (inr (inr (inr (inl h))))))) = inr (inr (inl h))
+    place-to-book (inl (inr (inr (inr (inr (inr (inr (inl h)))))))) = inr (inr (inr (inl (h .0, pad-booked (h .1)))))
+    place-to-book (inl (inr (inr (inr (inr (inr (inr (inr h)))))))) = inr (inr (inr (inr (inl (h .0, bar-booked (h .1))))))
+    place-to-book (inr h) =
+        inr (inr (inr (inr (inr (h .0, λ L. h .1 (linkage-for-less m _ _ _ _ (same-more c _ _ (S .pads) .0) (S .barred .0) L))))))
+
+    pub place-from-book : Refused m b Place c work report n → Place-refused m d work report c n
+    place-from-book (inl (inl h)) = inl (inr (inl h))
+    place-from-book (inl (inr h)) = inl (inr (inr (inl h)))
+    place-from-book (inr (inl h)) = inl (inr (inr (inr (inr (inl h)))))
+    place-from-book (inr (inr (inl h))) = inl (inr (inr (inr (inr (inr (inl h))))))
+    place-from-book (inr (inr (inr (inl h)))) = inl (inr (inr (inr (inr (inr (inr (inl (h .0, booked-pad (h .1)))))))))
+    place-from-book (inr (inr (inr (inr (inl h))))) = inl (inr (inr (inr (inr (inr (inr (inr (h .0, booked-bar (h .1)))))))))
+    place-from-book (inr (inr (inr (inr (inr h))))) =
+        inr (h .0, λ L. h .1 (linkage-for-less m _ _ _ _ (same-more c _ _ (S .pads) .1) (S .barred .1) L))
