@@ -3,3 +3,4 @@ pub mod Courses
 pub mod Showing
 pub mod Outcomes
 pub mod Conditions
+pub mod Barring

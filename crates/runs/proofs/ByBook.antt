@@ -23,6 +23,7 @@ use Rattle.drawings.specs.Conditions.{Lift-refused, Clear-refused}
 use Rattle.drawings.proofs.Cells.{kept-below, below-kept}
 use Rattle.linkages.proofs.Fewer.{linkage-for-less}
 use Rattle.routing.specs.Conditions.{Place-refused}
+use Rattle.routing.specs.Barring.{Bar-refused}
 use Rattle.runs.specs.declared.calls.Kind.the-variants.{Place, Lift, Bar, Clear}
 use Rattle.runs.specs.Histories.{Book}
 use Rattle.runs.specs.Claim.{Refused}
@@ -128,3 +129,23 @@ module _ (m : Meaning) (d : List Record) (b : Book) (S : Standing m d b) (c : �
     place-from-book (inr (inr (inr (inr (inl h))))) = inl (inr (inr (inr (inr (inr (inr (inr (h .0, booked-bar (h .1)))))))))
     place-from-book (inr (inr (inr (inr (inr h))))) =
         inr (h .0, λ L. h .1 (linkage-for-less m _ _ _ _ (same-more c _ _ (S .pads) .1) (S .barred .1) L))
+
+    pub bar-to-book : Bar-refused m d work report c n → Refused m b Bar c work report n
+    bar-to-book (inl (inl h)) = absurd (h .1 (S .lawful .one-each))
+    bar-to-book (inl (inr (inl h))) = inl (inl h)
+    bar-to-book (inl (inr (inr (inl h)))) = inl (inr h)
+    bar-to-book (inl (inr (inr (inr (inl h))))) = absurd (h .1 (S .lawful))
+    bar-to-book (inl (inr (inr (inr (inr (inl h)))))) = inr (inl h)
+    bar-to-book (inl (inr (inr (inr (inr (inr (inl h))))))) = inr (inr (inl (h .0, bar-booked (h .1))))
+    bar-to-book (inl (inr (inr (inr (inr (inr (inr h))))))) = inr (inr (inr (inl (h .0, pad-booked (h .1)))))
+    bar-to-book (inr h) =
+        inr (inr (inr (inr (h .0, λ L. h .1 (linkage-for-less m _ _ _ _ (S .pads .0) (same-more c _ _ (S .barred) .0) L)))))
+
+    pub bar-from-book : Refused m b Bar c work report n → Bar-refused m d work report c n
+    bar-from-book (inl (inl h)) = inl (inr (inl h))
+    bar-from-book (inl (inr h)) = inl (inr (inr (inl h)))
+    bar-from-book (inr (inl h)) = inl (inr (inr (inr (inr (inl h)))))
+    bar-from-book (inr (inr (inl h))) = inl (inr (inr (inr (inr (inr (inl (h .0, booked-bar (h .1))))))))
+    bar-from-book (inr (inr (inr (inl h)))) = inl (inr (inr (inr (inr (inr (inr (h .0, booked-pad (h .1))))))))
+    bar-from-book (inr (inr (inr (inr h)))) =
+        inr (h .0, λ L. h .1 (linkage-for-less m _ _ _ _ (S .pads .1) (same-more c _ _ (S .barred) .1) L))

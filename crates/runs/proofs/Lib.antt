@@ -1,3 +1,5 @@
 pub mod Standing
 pub mod SameFences
 pub mod ByBook
+pub mod Shown
+pub mod Upheld

@@ -105,7 +105,7 @@ module _ (m : Meaning) (d : List Record) (b : Book) (S : Standing m d b) where
 
 -- only place and bar are refused with 12, and then the pads to be met cannot be
 module _ (m : Meaning) (b : Book) (c : ℕ) (work report : List ℕ) where
-  for-want : (kind : Kind) → Refused m b kind c work report 12 → No-way m kind c b 12 × ((kind ≡ Place) ⊎ (kind ≡ Bar))
+  pub for-want : (kind : Kind) → Refused m b kind c work report 12 → No-way m kind c b 12 × ((kind ≡ Place) ⊎ (kind ≡ Bar))
   for-want Place (inl (inl h)) = absurd (omega (arith, h .0))
   for-want Place (inl (inr h)) = absurd (omega (arith, h .0))
   for-want Place (inr (inl h)) = absurd (omega (arith, h .0))

@@ -1,2 +1,3 @@
 pub mod Histories
 pub mod Claim
+pub mod Steps
