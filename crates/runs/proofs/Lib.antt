@@ -3,3 +3,5 @@ pub mod SameFences
 pub mod ByBook
 pub mod Shown
 pub mod Upheld
+pub mod Claiming
+pub mod Telling

@@ -1,3 +1,4 @@
 pub mod Histories
 pub mod Claim
 pub mod Steps
+pub mod Told
