@@ -12,49 +12,60 @@ use std::alloc::AllocError;
 use std::alloc::Global;
 
 // What the characters mean.
-pub const LEGEND: &str = "P pad, L landing, B both, v way to another layer, . plain";
+pub const LEGEND: &str =
+    "P pad, L landing, B both, v way to another layer, . plain; A and a: a wired pad and its net; # bar";
 
-// Each layer under its number, with a character for each place.
+// How much there is to draw.
+#[derive(Clone, Copy)]
+pub struct Size {
+    pub layers: u16,
+    pub rows: u16,
+    pub columns: u16,
+}
+
+// Each layer under its number, with a character for each place: that of the cell's label, or else what the board has there.
 pub fn draw<B: PlacedBoard>(
     heap: Global,
     board: &B,
-    layers: u16,
-    rows: u16,
-    columns: u16,
+    labels: &[char],
+    size: Size,
 ) -> Result<String, AllocError> {
     let mut text = String::new(heap);
-    for layer in 1..=layers {
+    for layer in 1..=size.layers {
         text.push_str(format!(heap, "\nlayer {layer}\n")?.as_str())?;
-        draw_layer(&mut text, board, layer, rows, columns)?;
+        for row in 0..size.rows {
+            draw_row(&mut text, board, labels, layer, row, size.columns)?;
+        }
     }
     Ok(text)
-}
-
-fn draw_layer<B: PlacedBoard>(
-    text: &mut String,
-    board: &B,
-    layer: u16,
-    rows: u16,
-    columns: u16,
-) -> Result<(), AllocError> {
-    for row in 0..rows {
-        draw_row(text, board, layer, row, columns)?;
-    }
-    Ok(())
 }
 
 fn draw_row<B: PlacedBoard>(
     text: &mut String,
     board: &B,
+    labels: &[char],
     layer: u16,
     row: u16,
     columns: u16,
 ) -> Result<(), AllocError> {
     for column in 0..columns {
         text.push(' ')?;
-        text.push(glyph(board, Place { layer, row, column }))?;
+        text.push(mark(board, labels, Place { layer, row, column }))?;
     }
     text.push('\n')
+}
+
+// The label of the cell at a place, unless that is a blank.
+fn mark<B: PlacedBoard>(board: &B, labels: &[char], place: Place) -> char {
+    let label = match board.cell_at(place) {
+        Some(cell) => labels.get(cell as usize).copied().unwrap_or(' '),
+        None => ' ',
+    };
+    if label == ' ' {
+        glyph(board, place)
+    } else {
+        label
+    }
 }
 
 // The character for a place.

@@ -1,7 +1,10 @@
-// Shows a board: reads a map from standard input, checks it, and draws the layers of the board made from it.
+// Shows a board: reads a map and calls from standard input, checks the map, makes the calls on the board made from it, and draws
+// its layers.
 //
-// The map is a line `field R C` or `escape R C`, and then R lines of C digits, one for each point.
+// The map is a line `field R C` or `escape R C`, and then R lines of C digits, one for each point. After it come the calls, a line
+// each: `place N`, `lift N`, `bar N` or `clear N`, where N is the number of a cell.
 mod canvas;
+mod orders;
 mod report;
 mod sheet;
 #[cfg(test)]

@@ -1,6 +1,11 @@
 // What is shown for a text: its fault, the refusal of its map, or the board.
 use crate::canvas::LEGEND;
+use crate::canvas::Size;
 use crate::canvas::draw;
+use crate::orders::Outcome;
+use crate::orders::labels;
+use crate::orders::perform;
+use crate::sheet::Order;
 use crate::sheet::Sheet;
 use crate::sheet::SheetErrorDisplay;
 use crate::sheet::read_sheet;
@@ -33,6 +38,7 @@ fn report_sheet(heap: Global, sheet: Sheet) -> Result<String, AllocError> {
         rows,
         columns,
         bytes,
+        orders,
     } = sheet;
     if let Err(refusal) = check_map(kind, rows, columns, bytes.as_slice()) {
         let number = refusal.number();
@@ -40,41 +46,55 @@ fn report_sheet(heap: Global, sheet: Sheet) -> Result<String, AllocError> {
         return format!(heap, "refused, {number}: {meaning}\n");
     }
     match kind {
-        MapKind::FieldMap => report_board(
-            heap,
-            &Field::new(rows, columns, bytes),
-            "field",
-            2,
-            rows,
-            columns,
-        ),
-        MapKind::EscapeMap => report_board(
-            heap,
-            &Escape::new(rows, columns, bytes),
-            "escape",
-            1,
-            rows,
-            columns,
-        ),
+        MapKind::FieldMap => {
+            let field = Field::new(rows, columns, bytes);
+            report_board(
+                heap,
+                &field,
+                "field",
+                orders.as_slice(),
+                Size {
+                    layers: 2,
+                    rows,
+                    columns,
+                },
+            )
+        }
+        MapKind::EscapeMap => {
+            let escape = Escape::new(rows, columns, bytes);
+            report_board(
+                heap,
+                &escape,
+                "escape",
+                orders.as_slice(),
+                Size {
+                    layers: 1,
+                    rows,
+                    columns,
+                },
+            )
+        }
     }
 }
 
-// The numbers of a board, and its picture.
+// The numbers of a board, the answers to the calls on it, and the picture of what stands then.
 fn report_board<B: PlacedBoard>(
     heap: Global,
     board: &B,
     name: &str,
-    layers: u16,
-    rows: u16,
-    columns: u16,
+    orders: &[Order],
+    size: Size,
 ) -> Result<String, AllocError> {
+    let Size { rows, columns, .. } = size;
     let cells = board.cells();
     let pads = count_marked(board, Mark::Pad);
     let landings = count_marked(board, Mark::Landing);
-    let picture = draw(heap, board, layers, rows, columns)?;
+    let Outcome { drawing, answers } = perform(heap, board, orders)?;
+    let labels = labels(heap, board, drawing.as_slice())?;
+    let picture = draw(heap, board, labels.as_slice(), size)?;
     format!(
         heap,
-        "{name} {rows} x {columns}: {cells} cells, {pads} pads, {landings} landings\n{picture}\n{LEGEND}\n"
+        "{name} {rows} x {columns}: {cells} cells, {pads} pads, {landings} landings\n{answers}{picture}\n{LEGEND}\n"
     )
 }
 

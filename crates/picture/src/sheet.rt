@@ -1,8 +1,9 @@
-// A map as a text gives it.
+// A map and the calls on it, as a text gives them.
 ghost use Rattle.std.specs.Of.Vec.{vec-items};
 ghost use Rattle.std.specs.Vec.{made};
 ghost use Rattle.picture.specs.Rows.{Reads-row};
 use boards::maps::MapKind;
+use runs::calls::Kind;
 use std::alloc::AllocError;
 use std::alloc::Global;
 use std::alloc::Refused;
@@ -14,6 +15,14 @@ pub struct Sheet {
     pub rows: u16,
     pub columns: u16,
     pub bytes: Vec<u8>,
+    pub orders: Vec<Order>,
+}
+
+// A call to be made.
+#[derive(Clone, Copy)]
+pub struct Order {
+    pub kind: Kind,
+    pub cell: u16,
 }
 
 #[derive(Drop)]
@@ -22,6 +31,8 @@ pub enum SheetError {
     Header,
     // The line is not one digit for each column.
     Row { line: usize, columns: u16 },
+    // The line after the map is no call.
+    Order { line: usize },
     Memory,
 }
 
@@ -48,24 +59,34 @@ pub impl fmt::Display for SheetError as SheetErrorDisplay {
                 f,
                 "line {line}: expected {columns} digits, one for each column"
             ),
+            SheetError::Order { line } => write!(
+                f,
+                "line {line}: expected 'place', 'lift', 'bar' or 'clear', and the number of a cell"
+            ),
             SheetError::Memory => write!(f, "out of memory"),
         }
     }
 }
 
-// The map in the text: its header, and then the digits of its rows.
+// The map in the text, its header and the digits of its rows, and then the calls.
 pub fn read_sheet(heap: Global, text: &str) -> Result<Sheet, SheetError> {
     let mut lines = text.lines();
     let Some((kind, rows, columns)) = read_header(lines.next().unwrap_or("")) else {
         return Err(SheetError::Header);
     };
     let mut bytes = Vec::new(heap);
-    for (i, row) in lines.enumerate() {
-        if !read_row(&mut bytes, row.as_bytes(), columns)? {
-            return Err(SheetError::Row {
-                line: i.saturating_add(2),
-                columns,
-            });
+    let mut orders = Vec::new(heap);
+    for (i, text) in lines.enumerate() {
+        let line = i.saturating_add(2);
+        if i < rows as usize {
+            if !read_row(&mut bytes, text.as_bytes(), columns)? {
+                return Err(SheetError::Row { line, columns });
+            }
+        } else {
+            match read_order(text) {
+                Some(order) => orders.push(order)?,
+                None => return Err(SheetError::Order { line }),
+            }
         }
     }
     Ok(Sheet {
@@ -73,7 +94,25 @@ pub fn read_sheet(heap: Global, text: &str) -> Result<Sheet, SheetError> {
         rows,
         columns,
         bytes,
+        orders,
     })
+}
+
+fn read_order(text: &str) -> Option<Order> {
+    let (word, number) = text.split_once(' ')?;
+    let kind = read_call(word)?;
+    let cell = number.parse::<u16>().ok()?;
+    Some(Order { kind, cell })
+}
+
+fn read_call(word: &str) -> Option<Kind> {
+    match word {
+        "place" => Some(Kind::Place),
+        "lift" => Some(Kind::Lift),
+        "bar" => Some(Kind::Bar),
+        "clear" => Some(Kind::Clear),
+        _ => None,
+    }
 }
 
 fn read_header(line: &str) -> Option<(MapKind, u16, u16)> {

@@ -47,6 +47,19 @@ fn texts_at_fault(rt: LibcRuntime) -> Result<(), Fail> {
 }
 
 #[test]
+fn a_field(rt: LibcRuntime) -> Result<(), Fail> {
+    let shown = report(rt.alloc(), "field 4 6\n100001\n000200\n010030\n200002\n")?;
+    let top =
+        "field 4 x 6: 48 cells, 4 pads, 4 landings\n\nlayer 1\n P . . . . P\n . . . v . .\n . P . . P .\n v . . . . v\n";
+    let bottom = "\nlayer 2\n . . . . . .\n . . . L . .\n . . . . L .\n L . . . . L\n\n";
+    check(
+        shown
+            .as_str()
+            .starts_with(format!(rt.alloc(), "{top}{bottom}")?.as_str()),
+    )
+}
+
+#[test]
 fn an_escape_board(rt: LibcRuntime) -> Result<(), Fail> {
     let shown = report(rt.alloc(), "escape 3 3\n000\n010\n100\n")?;
     let rows = "escape 3 x 3: 9 cells, 2 pads, 7 landings\n\nlayer 1\n L L L\n L P L\n P L L\n\n";

@@ -31,7 +31,7 @@ use Rattle.runs.proofs.Standing.{Standing}
 
 -- the same answer under conditions that say the same
 pub answer-by : {X E : Type 0} (number : E → ℕ) (C D : ℕ → Type 0) (A : X → Type 0) → ((n : ℕ) → C n → D n) → ((n : ℕ) → D n → C n) →
-  (r : Result X E) → Answer number C A r → Answer number D (λ _. Unit {0}) r
+    (r : Result X E) → Answer number C A r → Answer number D (λ _. Unit {0}) r
 answer-by number C D A to from (Ok x) a = (λ k h. a .0 k (from k h), tt)
 answer-by number C D A to from (Err e) a = (to (number e) (a .0), λ k l h. a .1 k l (from k h))
 

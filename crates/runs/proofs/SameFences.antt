@@ -55,14 +55,14 @@ module _ (m : Meaning) (d : List Record) (b : Book) (S : Standing m d b) where
   module _ (c : ℕ) where
     free-met : net-at d c ≡ false → CanBeMet m (c ∷ b .barred) (b .pads)
     free-met off =
-      let L = linked m d (S .lawful) in
-      let under = wiring-under {bars′ = c ∷ bars d}
-            (λ q i xs k j. elim (mem-cases i)
-              [ inl e ↦ both-ways (net-at d c) off (L .net-cells c xs k (mem-at (sym e) j)) | inr i ↦ off-bars xs q k j i ])
-            (L .wiring) in
-      let all : Within (b .pads) (pads-of (nets d)) = λ q k. subst (Mem q) (sym (L .pads)) (S .pads .1 q k) in
-      let fewer : Within (c ∷ b .barred) (c ∷ bars d) = λ q k. elim (mem-cases k) [ inl e ↦ here e | inr i ↦ there (S .barred .1 q i) ] in
-      linkage-for-less m (c ∷ bars d) (c ∷ b .barred) (pads-of (nets d)) (b .pads) all fewer (nets-link m (c ∷ bars d) (nets d) under)
+        let L = linked m d (S .lawful) in
+        let under = wiring-under {bars′ = c ∷ bars d}
+        (λ q i xs k j. elim (mem-cases i)
+        [ inl e ↦ both-ways (net-at d c) off (L .net-cells c xs k (mem-at (sym e) j)) | inr i ↦ off-bars xs q k j i ])
+        (L .wiring) in
+        let all : Within (b .pads) (pads-of (nets d)) = λ q k. subst (Mem q) (sym (L .pads)) (S .pads .1 q k) in
+        let fewer : Within (c ∷ b .barred) (c ∷ bars d) = λ q k. elim (mem-cases k) [ inl e ↦ here e | inr i ↦ there (S .barred .1 q i) ] in
+        linkage-for-less m (c ∷ bars d) (c ∷ b .barred) (pads-of (nets d)) (b .pads) all fewer (nets-link m (c ∷ bars d) (nets d) under)
 
     -- whether a net begins elsewhere than at w
     abbrev other : ℕ → List ℕ → Bool
@@ -73,32 +73,33 @@ module _ (m : Meaning) (d : List Record) (b : Book) (S : Standing m d b) where
 
     net-nearly : net-at d c ≡ true → Nearly m (c ∷ b .barred) (b .pads)
     net-nearly on =
-      let L = linked m d (S .lawful) in
-      let n = L .on-a-net c on in
-      let xs = n .0 in
-      let w = first-of xs in
-      let left = kept-by (other w) (nets d) in
-      let under = wiring-under {bars′ = c ∷ bars d}
-            (λ q i ys k j.
-              let f = mem-of-kept (other w) ys (nets d) k in
-              elim (mem-cases i)
-              [ inl e ↦ other-differs w ys (f .1) (ap first-of (same-net m (bars d) (nets d) (L .wiring) (f .0) (n .1) (mem-at (sym e) j) (n .2)))
-              | inr i ↦ off-bars ys q (f .0) j i ])
-            (wiring-kept (other w) (L .wiring)) in
-      let fewer : Within (c ∷ b .barred) (c ∷ bars d) = λ q k. elim (mem-cases k) [ inl e ↦ here e | inr i ↦ there (S .barred .1 q i) ] in
-      record {
-        one = w;
-        others = pads-of left;
-        all = λ q k.
-          let p = mem-of-map first-of q (nets d) (subst (Mem q) (sym (L .pads)) (S .pads .1 q k)) in
-          ⊎-elim
-            (λ e. here e)
-            (λ ne.
+        let L = linked m d (S .lawful) in
+        let n = L .on-a-net c on in
+        let xs = n .0 in
+        let w = first-of xs in
+        let left = kept-by (other w) (nets d) in
+        let under = wiring-under {bars′ = c ∷ bars d}
+        (λ q i ys k j.
+        let f = mem-of-kept (other w) ys (nets d) k in
+        elim (mem-cases i) [
+          | inl e ↦ other-differs w ys (f .1) (ap first-of (same-net m (bars d) (nets d) (L .wiring) (f .0) (n .1) (mem-at (sym e) j) (n .2)))
+          | inr i ↦ off-bars ys q (f .0) j i
+        ])
+        (wiring-kept (other w) (L .wiring)) in
+        let fewer : Within (c ∷ b .barred) (c ∷ bars d) = λ q k. elim (mem-cases k) [ inl e ↦ here e | inr i ↦ there (S .barred .1 q i) ] in
+        record {
+          one = w;
+          others = pads-of left;
+          all = λ q k.
+              let p = mem-of-map first-of q (nets d) (subst (Mem q) (sym (L .pads)) (S .pads .1 q k)) in
+              ⊎-elim
+              (λ e. here e)
+              (λ ne.
               let t : other w (p .0) ≡ true = ap not (ne-eqb (first-of (p .0)) w (λ e. ne (p .2 ∙ e))) in
               there (mem-at (p .2) (mem-map first-of (mem-kept (other w) (p .1) t))))
-            (cases-eq q w);
-        met = linkage-for-less m (c ∷ bars d) (c ∷ b .barred) (pads-of left) (pads-of left) (λ q k. k) fewer (nets-link m (c ∷ bars d) left under);
-      }
+              (cases-eq q w);
+          met = linkage-for-less m (c ∷ bars d) (c ∷ b .barred) (pads-of left) (pads-of left) (λ q k. k) fewer (nets-link m (c ∷ bars d) left under);
+        }
 
     bar-nearly : (CanBeMet m (c ∷ b .barred) (b .pads) → ⊥) → Nearly m (c ∷ b .barred) (b .pads)
     bar-nearly no-way = ⊎-elim net-nearly (λ off. absurd (no-way (free-met off))) (cases-bool (net-at d c))
@@ -134,14 +135,14 @@ module _ (m : Meaning) (d : List Record) (b : Book) (S : Standing m d b) (c : �
   nearly-by Clear w = absurd (elim (w .1) [ inl e ↦ let z : _≡_ {A = ℕ} 0 1 = cc in omega arith | inr e ↦ let z : _≡_ {A = ℕ} 0 1 = cc in omega arith ])
 
 refused-12 : (m : Meaning) (e : Event) (g : History) (p k : ℕ) → Upheld m e g → e .answer ≡ Err (NoWay p k) →
-  Refused m (book g) (e .kind) (e .cell) (e .work) (e .report) 12
+    Refused m (book g) (e .kind) (e .cell) (e .work) (e .report) 12
 refused-12 m e g p k u a =
-  subst (Answer number-of (Refused m (book g) (e .kind) (e .cell) (e .work) (e .report)) (λ _. Unit {0})) a (u .numbered) .0
+    subst (Answer number-of (Refused m (book g) (e .kind) (e .cell) (e .work) (e .report)) (λ _. Unit {0})) a (u .numbered) .0
 
 pub same-fences : (m : Meaning) (h h′ : History) → Upholds m h → Upholds m h′ → Same-fences m h h′
 same-fences m h h′ u u′ e e′ g g′ p k p′ k′ made made′ a a′ pads barred =
-  let v = upheld-at made u in
-  let v′ = upheld-at made′ u′ in
-  let why = for-want m (book g) (e .cell) (e .work) (e .report) (e .kind) (refused-12 m e g p k (v .0) a) in
-  let N = nearly-by m (stands m g) (book g) (standing m g (v .1)) (e .cell) (e .kind) why in
-  fences-agree m _ _ _ _ (N .others) (N .one) barred pads (N .all) (N .met) _ _ _ _ (v .0 .fenced p k a .fence) (v′ .0 .fenced p′ k′ a′ .fence)
+    let v = upheld-at made u in
+    let v′ = upheld-at made′ u′ in
+    let why = for-want m (book g) (e .cell) (e .work) (e .report) (e .kind) (refused-12 m e g p k (v .0) a) in
+    let N = nearly-by m (stands m g) (book g) (standing m g (v .1)) (e .cell) (e .kind) why in
+    fences-agree m _ _ _ _ (N .others) (N .one) barred pads (N .all) (N .met) _ _ _ _ (v .0 .fenced p k a .fence) (v′ .0 .fenced p′ k′ a′ .fence)

@@ -28,14 +28,14 @@ empty-same xs e = (λ c k. rw e at k, λ c k. absurd (mem-none k))
 
 all-free : (n k : ℕ) → getD (replicate n Free) k Free ≡ Free
 all-free n k = ⊎-elim
-  (λ h. getD-replicate n k Free Free h)
-  (λ h. getD-past (replicate n Free) k Free (rw (length-replicate n Free) h))
-  (cases-lt k n)
+    (λ h. getD-replicate n k Free Free h)
+    (λ h. getD-past (replicate n Free) k Free (rw (length-replicate n Free) h))
+    (cases-lt k n)
 
 pub standing : (m : Meaning) (h : History) → Upholds m h → Standing m (stands m h) (book h)
 standing m [] u =
-  let f = made m (replicate (m .cells) Free) (length-replicate (m .cells) Free) (all-free (m .cells)) in
-  record { lawful = f .lawful; pads = empty-same _ (f .none-wired); barred = empty-same _ (f .none-barred) }
+    let f = made m (replicate (m .cells) Free) (length-replicate (m .cells) Free) (all-free (m .cells)) in
+    record { lawful = f .lawful; pads = empty-same _ (f .none-wired); barred = empty-same _ (f .none-barred) }
 standing m (e ∷ h) u = record { lawful = u .0 .lawful; pads = u .0 .holds-pads; barred = u .0 .holds-bars }
 
 -- each call of an upheld history is upheld, and so are the calls before it

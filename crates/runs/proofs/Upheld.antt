@@ -62,9 +62,9 @@ module _ (m : Meaning) (h : History) (u : Upholds m h) (c : ℕ) (d e : List Rec
 
   -- a refused call that leaves the drawing as it was
   refused-upheld : (kind : Kind) (r : Refusal) → e ≡ d →
-    Answer {X = ℕ} number-of (Refused m (book h) kind c work report) (λ _. Unit {0}) (Err r) →
-    ((p k : ℕ) → r ≡ NoWay p k → Shows-fence m (book h) (event kind c d e work work′ report report′ (Err r)) p k) →
-    Upheld m (event kind c d e work work′ report report′ (Err r)) h
+      Answer {X = ℕ} number-of (Refused m (book h) kind c work report) (λ _. Unit {0}) (Err r) →
+      ((p k : ℕ) → r ≡ NoWay p k → Shows-fence m (book h) (event kind c d e work work′ report report′ (Err r)) p k) →
+      Upheld m (event kind c d e work work′ report report′ (Err r)) h
   refused-upheld kind r same a f = record {
     goes-on = goes-on;
     lawful = subst (Lawful m) (sym same) (S .lawful);
@@ -75,8 +75,8 @@ module _ (m : Meaning) (h : History) (u : Upholds m h) (c : ℕ) (d e : List Rec
   }
 
   accepted-upheld : (kind : Kind) (x : ℕ) → Lawful m e → Same (wired e) (entered kind c (book h) .pads) → Same (bars e) (entered kind c (book h) .barred) →
-    Answer number-of (Refused m (book h) kind c work report) (λ _. Unit {0}) (Ok x) →
-    Upheld m (event kind c d e work work′ report report′ (Ok x)) h
+      Answer number-of (Refused m (book h) kind c work report) (λ _. Unit {0}) (Ok x) →
+      Upheld m (event kind c d e work work′ report report′ (Ok x)) h
   accepted-upheld kind x lawful pads barred a = record {
     goes-on = goes-on;
     lawful = lawful;
@@ -88,35 +88,35 @@ module _ (m : Meaning) (h : History) (u : Upholds m h) (c : ℕ) (d e : List Rec
 
   -- lift and clear are never refused for want of a way
   no-fence : (kind : Kind) (r : Refusal) → ((kind ≡ Place) ⊎ (kind ≡ Bar) → ⊥) →
-    Answer {X = ℕ} number-of (Refused m (book h) kind c work report) (λ _. Unit {0}) (Err r) →
-    (p k : ℕ) → r ≡ NoWay p k → Shows-fence m (book h) (event kind c d e work work′ report report′ (Err r)) p k
+      Answer {X = ℕ} number-of (Refused m (book h) kind c work report) (λ _. Unit {0}) (Err r) →
+      (p k : ℕ) → r ≡ NoWay p k → Shows-fence m (book h) (event kind c d e work work′ report report′ (Err r)) p k
   no-fence kind r not-these a p k g =
-    let twelve = subst (λ (s : Refusal). Refused m (book h) kind c work report (number-of s)) g (a .0) in
-    absurd (not-these (for-want m (book h) c work report kind twelve .1))
+      let twelve = subst (λ (s : Refusal). Refused m (book h) kind c work report (number-of s)) g (a .0) in
+      absurd (not-these (for-want m (book h) c work report kind twelve .1))
 
   place-upheld : (r : Result ℕ Refusal) → Performs m Place c d e work work′ report report′ r → Upheld m (event Place c d e work work′ report report′ r) h
   place-upheld (Ok z) P =
-    let w = P .0 .1 .wired-also .rewired in
-    accepted-upheld Place z (w .lawful) (same-trans (w .one-more) (same-more c _ _ (S .pads))) (same-trans (same-at (w .same-bars)) (S .barred))
+      let w = P .0 .1 .wired-also .rewired in
+      accepted-upheld Place z (w .lawful) (same-trans (w .one-more) (same-more c _ _ (S .pads))) (same-trans (same-at (w .same-bars)) (S .barred))
       (answer-by number-of _ _ (Pad-placed m d e work work′ report report′ c) (place-to-book m d (book h) S c work report) (place-from-book m d (book h) S c work report) (Ok z) (P .0))
   place-upheld (Err r) P =
-    refused-upheld Place r (left-drawing r (P .1) (λ l. l .drawing-kept) (λ p k l. l .drawing-kept))
+      refused-upheld Place r (left-drawing r (P .1) (λ l. l .drawing-kept) (λ p k l. l .drawing-kept))
       (answer-by number-of _ _ (Pad-placed m d e work work′ report report′ c) (place-to-book m d (book h) S c work report) (place-from-book m d (book h) S c work report) (Err r) (P .0))
       (λ p k g.
-        let F = subst (Leaves (Untouched d e work work′ report report′) (Fenced m d e (bars d) (c ∷ wired d) work work′ report report′)) g (P .1) in
-        shows-fence m (book h) (event Place c d e work work′ report report′ (Err r)) (bars d) (c ∷ wired d) (S .barred) (same-more c _ _ (S .pads)) p k (F .shown))
+      let F = subst (Leaves (Untouched d e work work′ report report′) (Fenced m d e (bars d) (c ∷ wired d) work work′ report report′)) g (P .1) in
+      shows-fence m (book h) (event Place c d e work work′ report report′ (Err r)) (bars d) (c ∷ wired d) (S .barred) (same-more c _ _ (S .pads)) p k (F .shown))
 
   bar-upheld : (r : Result ℕ Refusal) → Performs m Bar c d e work work′ report report′ r → Upheld m (event Bar c d e work work′ report report′ r) h
   bar-upheld (Ok z) P =
-    let w = P .0 .1 in
-    accepted-upheld Bar z (w .lawful) (same-trans (w .same-wired) (S .pads)) (same-trans (w .one-more) (same-more c _ _ (S .barred)))
+      let w = P .0 .1 in
+      accepted-upheld Bar z (w .lawful) (same-trans (w .same-wired) (S .pads)) (same-trans (w .one-more) (same-more c _ _ (S .barred)))
       (answer-by number-of _ _ (Cell-barred m d e work work′ report report′ c) (bar-to-book m d (book h) S c work report) (bar-from-book m d (book h) S c work report) (Ok z) (P .0))
   bar-upheld (Err r) P =
-    refused-upheld Bar r (left-drawing r (P .1) (λ l. l .drawing-kept) (λ p k l. l .drawing-kept))
+      refused-upheld Bar r (left-drawing r (P .1) (λ l. l .drawing-kept) (λ p k l. l .drawing-kept))
       (answer-by number-of _ _ (Cell-barred m d e work work′ report report′ c) (bar-to-book m d (book h) S c work report) (bar-from-book m d (book h) S c work report) (Err r) (P .0))
       (λ p k g.
-        let F = subst (Leaves (Untouched d e work work′ report report′) (Fenced m d e (c ∷ bars d) (wired d) work work′ report report′)) g (P .1) in
-        shows-fence m (book h) (event Bar c d e work work′ report report′ (Err r)) (c ∷ bars d) (wired d) (same-more c _ _ (S .barred)) (S .pads) p k (F .shown))
+      let F = subst (Leaves (Untouched d e work work′ report report′) (Fenced m d e (c ∷ bars d) (wired d) work work′ report report′)) g (P .1) in
+      shows-fence m (book h) (event Bar c d e work work′ report report′ (Err r)) (c ∷ bars d) (wired d) (same-more c _ _ (S .barred)) (S .pads) p k (F .shown))
 
   not-lift : (Lift ≡ Place) ⊎ (Lift ≡ Bar) → ⊥
   not-lift (inl g) = let z : _≡_ {A = ℕ} 0 1 = cc in omega arith
@@ -128,24 +128,24 @@ module _ (m : Meaning) (h : History) (u : Upholds m h) (c : ℕ) (d e : List Rec
 
   lift-upheld : (r : Result ℕ Refusal) → Performs m Lift c d e work work′ report report′ r → Upheld m (event Lift c d e work work′ report report′ r) h
   lift-upheld (Ok z) P =
-    let w = P .0 .1 in
-    accepted-upheld Lift z (w .lawful) (same-trans (same-at (w .one-less)) (same-without c _ _ (S .pads))) (same-trans (same-at (w .same-bars)) (S .barred))
+      let w = P .0 .1 in
+      accepted-upheld Lift z (w .lawful) (same-trans (same-at (w .one-less)) (same-without c _ _ (S .pads))) (same-trans (same-at (w .same-bars)) (S .barred))
       (answer-by number-of _ _ (Lifted m d e c) (lift-to-book m d (book h) S c work report) (lift-from-book m d (book h) S c work report) (Ok z) (P .0))
   lift-upheld (Err r) P =
-    let a = answer-by number-of _ _ (Lifted m d e c) (lift-to-book m d (book h) S c work report) (lift-from-book m d (book h) S c work report) (Err r) (P .0) in
-    refused-upheld Lift r (P .1) a (no-fence Lift r not-lift a)
+      let a = answer-by number-of _ _ (Lifted m d e c) (lift-to-book m d (book h) S c work report) (lift-from-book m d (book h) S c work report) (Err r) (P .0) in
+      refused-upheld Lift r (P .1) a (no-fence Lift r not-lift a)
 
   clear-upheld : (r : Result ℕ Refusal) → Performs m Clear c d e work work′ report report′ r → Upheld m (event Clear c d e work work′ report report′ r) h
   clear-upheld (Ok z) P =
-    let w = P .0 .1 in
-    accepted-upheld Clear z (w .lawful) (same-trans (same-at (w .same-wired)) (S .pads)) (same-trans (same-at (w .one-less)) (same-without c _ _ (S .barred)))
+      let w = P .0 .1 in
+      accepted-upheld Clear z (w .lawful) (same-trans (same-at (w .same-wired)) (S .pads)) (same-trans (same-at (w .one-less)) (same-without c _ _ (S .barred)))
       (answer-by number-of _ _ (Cleared m d e c) (clear-to-book m d (book h) S c work report) (clear-from-book m d (book h) S c work report) (Ok z) (P .0))
   clear-upheld (Err r) P =
-    let a = answer-by number-of _ _ (Cleared m d e c) (clear-to-book m d (book h) S c work report) (clear-from-book m d (book h) S c work report) (Err r) (P .0) in
-    refused-upheld Clear r (P .1) a (no-fence Clear r not-clear a)
+      let a = answer-by number-of _ _ (Cleared m d e c) (clear-to-book m d (book h) S c work report) (clear-from-book m d (book h) S c work report) (Err r) (P .0) in
+      refused-upheld Clear r (P .1) a (no-fence Clear r not-clear a)
 
   pub step-upheld : (kind : Kind) (r : Result ℕ Refusal) → Performs m kind c d e work work′ report report′ r →
-    Upheld m (event kind c d e work work′ report report′ r) h
+      Upheld m (event kind c d e work work′ report report′ r) h
   step-upheld Place r P = place-upheld r P
   step-upheld Lift r P = lift-upheld r P
   step-upheld Bar r P = bar-upheld r P

@@ -35,11 +35,11 @@ No-way m kind c b n = (n ≡ 12) × (CanBeMet m (bars-to-meet kind c b) (pads-to
 
 abbrev pub Refused : Meaning → Book → Kind → ℕ → (work report : List ℕ) → ℕ → Type 0
 Refused m b Place c work report n =
-  Short m work report n ⊎ (((n ≡ 5) × (m .cells ≤ c)) ⊎ (((n ≡ 6) × (pad-at m c ≡ false)) ⊎ (((n ≡ 7) × Mem c (b .pads))
-  ⊎ (((n ≡ 9) × Mem c (b .barred)) ⊎ No-way m Place c b n))))
+    Short m work report n ⊎ (((n ≡ 5) × (m .cells ≤ c)) ⊎ (((n ≡ 6) × (pad-at m c ≡ false)) ⊎ (((n ≡ 7) × Mem c (b .pads))
+    ⊎ (((n ≡ 9) × Mem c (b .barred)) ⊎ No-way m Place c b n))))
 Refused m b Lift c work report n = ((n ≡ 5) × (m .cells ≤ c)) ⊎ (((n ≡ 6) × (pad-at m c ≡ false)) ⊎ ((n ≡ 8) × (Mem c (b .pads) → ⊥)))
 Refused m b Bar c work report n =
-  Short m work report n ⊎ (((n ≡ 5) × (m .cells ≤ c)) ⊎ (((n ≡ 9) × Mem c (b .barred)) ⊎ (((n ≡ 11) × Mem c (b .pads)) ⊎ No-way m Bar c b n)))
+    Short m work report n ⊎ (((n ≡ 5) × (m .cells ≤ c)) ⊎ (((n ≡ 9) × Mem c (b .barred)) ⊎ (((n ≡ 11) × Mem c (b .pads)) ⊎ No-way m Bar c b n)))
 Refused m b Clear c work report n = ((n ≡ 5) × (m .cells ≤ c)) ⊎ ((n ≡ 10) × (Mem c (b .barred) → ⊥))
 
 -- ---- the fence that a refusal for want of a way shows: its pads and then its cells, at the front of report memory
@@ -84,10 +84,10 @@ pub data Made-after (e : Event) (g : History) : History → Type 0 where
 -- pads and the same cells
 abbrev pub Same-fences : Meaning → History → History → Type 0
 Same-fences m h h′ = (e e′ : Event) (g g′ : History) (p k p′ k′ : ℕ) → Made-after e g h → Made-after e′ g′ h′ →
-  e .answer ≡ Err (NoWay p k) → e′ .answer ≡ Err (NoWay p′ k′) →
-  Same (pads-to-meet (e .kind) (e .cell) (book g)) (pads-to-meet (e′ .kind) (e′ .cell) (book g′)) →
-  Same (bars-to-meet (e .kind) (e .cell) (book g)) (bars-to-meet (e′ .kind) (e′ .cell) (book g′)) →
-  Same (shown-pads e p) (shown-pads e′ p′) × Same (shown-cells e p k) (shown-cells e′ p′ k′)
+    e .answer ≡ Err (NoWay p k) → e′ .answer ≡ Err (NoWay p′ k′) →
+    Same (pads-to-meet (e .kind) (e .cell) (book g)) (pads-to-meet (e′ .kind) (e′ .cell) (book g′)) →
+    Same (bars-to-meet (e .kind) (e .cell) (book g)) (bars-to-meet (e′ .kind) (e′ .cell) (book g′)) →
+    Same (shown-pads e p) (shown-pads e′ p′) × Same (shown-cells e p k) (shown-cells e′ p′ k′)
 
 -- the whole claim about a history: it is upheld, and against every other upheld history of a board that means the same
 pub record Claim (m : Meaning) (h : History) : Type 0 where

@@ -35,12 +35,12 @@ event kind c d e work work′ report report′ r = record {
 
 abbrev pub Performs : Meaning → Kind → ℕ → (d e : List Record) (work work′ report report′ : List ℕ) → Result ℕ Refusal → Type 0
 Performs m Place c d e work work′ report report′ r =
-  Answer number-of (Place-refused m d work report c) (Pad-placed m d e work work′ report report′ c) r
-  × refused r (Leaves (Untouched d e work work′ report report′) (Fenced m d e (bars d) (c ∷ wired d) work work′ report report′))
+    Answer number-of (Place-refused m d work report c) (Pad-placed m d e work work′ report report′ c) r
+    × refused r (Leaves (Untouched d e work work′ report report′) (Fenced m d e (bars d) (c ∷ wired d) work work′ report report′))
 Performs m Lift c d e work work′ report report′ r =
-  Answer number-of (Lift-refused m d c) (Lifted m d e c) r × refused r (λ _. e ≡ d) × (work′ ≡ work) × (report′ ≡ report)
+    Answer number-of (Lift-refused m d c) (Lifted m d e c) r × refused r (λ _. e ≡ d) × (work′ ≡ work) × (report′ ≡ report)
 Performs m Bar c d e work work′ report report′ r =
-  Answer number-of (Bar-refused m d work report c) (Cell-barred m d e work work′ report report′ c) r
-  × refused r (Leaves (Untouched d e work work′ report report′) (Fenced m d e (c ∷ bars d) (wired d) work work′ report report′))
+    Answer number-of (Bar-refused m d work report c) (Cell-barred m d e work work′ report report′ c) r
+    × refused r (Leaves (Untouched d e work work′ report report′) (Fenced m d e (c ∷ bars d) (wired d) work work′ report report′))
 Performs m Clear c d e work work′ report report′ r =
-  Answer number-of (Clear-refused m d c) (Cleared m d e c) r × refused r (λ _. e ≡ d) × (work′ ≡ work) × (report′ ≡ report)
+    Answer number-of (Clear-refused m d c) (Cleared m d e c) r × refused r (λ _. e ≡ d) × (work′ ≡ work) × (report′ ≡ report)

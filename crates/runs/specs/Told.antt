@@ -36,7 +36,7 @@ pub record Event-of (e : Event) (a b : Call) : Type 0 where
 pub data Told (before after : List Call) : ℕ → History → Type 0 where
   nothing : Told before after 0 []
   then : {k : ℕ} {e : Event} {h : History} → Told before after k h → ((d : Call) → Event-of e (getD before k d) (getD after k d)) →
-    Told before after (suc k) (e ∷ h)
+      Told before after (suc k) (e ∷ h)
 
 -- the calls tell a history of which the whole claim holds, and which ends in the drawing
 pub record Ran (m : Meaning) (drawing : List Record) (before after : List Call) : Type 0 where

@@ -31,6 +31,13 @@ fn perform<B: Board>(board: &B, drawing: &mut [Record], call: &mut Call)
 {
     let kind = call.kind;
     let cell = call.cell;
-    let answer = step(board, drawing, kind, cell, call.work.as_mut_slice(), call.report.as_mut_slice());
+    let answer = step(
+        board,
+        drawing,
+        kind,
+        cell,
+        call.work.as_mut_slice(),
+        call.report.as_mut_slice(),
+    );
     call.answer = Some(answer);
 }

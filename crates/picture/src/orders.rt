@@ -1,0 +1,134 @@
+// Making the calls of a sheet, and what is said of each.
+use crate::sheet::Order;
+use boards::board::Board;
+use drawings::records::Record;
+use drawings::records::record_at;
+use drawings::refusals::Refusal;
+use runs::calls::Call;
+use runs::calls::Kind;
+use runs::run::run;
+use std::alloc::AllocError;
+use std::alloc::Global;
+
+// The drawing that stands after the calls, and a line for each of them.
+#[derive(Drop)]
+pub struct Outcome {
+    pub drawing: Vec<Record>,
+    pub answers: String,
+}
+
+pub fn perform<B: Board>(heap: Global, board: &B, orders: &[Order]) -> Result<Outcome, AllocError> {
+    let cells = board.cells() as usize;
+    let mut drawing = vec![in heap; Record::Free; cells]?;
+    let mut calls = Vec::new(heap);
+    for order in orders {
+        calls.push(Call {
+            kind: order.kind,
+            cell: order.cell,
+            work: vec![in heap; 0u16; 4 * cells]?,
+            report: vec![in heap; 0u16; 2 * cells]?,
+            answer: None,
+        })?;
+    }
+    let _ = run(board, drawing.as_mut_slice(), calls.as_mut_slice());
+    let mut answers = String::new(heap);
+    for call in calls.iter() {
+        answers.push_str(say(heap, call)?.as_str())?;
+    }
+    Ok(Outcome { drawing, answers })
+}
+
+// A call and its answer.
+fn say(heap: Global, call: &Call) -> Result<String, AllocError> {
+    let word = word(call.kind);
+    let cell = call.cell;
+    match &call.answer {
+        Some(Ok(number)) => format!(heap, "{word} {cell}: ok {number}\n"),
+        Some(Err(Refusal::NoWay { pads, cells })) => {
+            let shown = say_fence(
+                heap,
+                call.report.as_slice(),
+                *pads as usize,
+                *cells as usize,
+            )?;
+            format!(heap, "{word} {cell}: no 12, {shown}\n")
+        }
+        Some(Err(refusal)) => {
+            let number = refusal.number();
+            format!(heap, "{word} {cell}: no {number}\n")
+        }
+        None => format!(heap, "{word} {cell}: not made\n"),
+    }
+}
+
+fn word(kind: Kind) -> &'static str {
+    match kind {
+        Kind::Place => "place",
+        Kind::Lift => "lift",
+        Kind::Bar => "bar",
+        Kind::Clear => "clear",
+    }
+}
+
+// The fence at the front of report memory.
+fn say_fence(
+    heap: Global,
+    report: &[u16],
+    pads: usize,
+    cells: usize,
+) -> Result<String, AllocError> {
+    let shown_pads = say_numbers(heap, report, 0, pads)?;
+    let shown_cells = say_numbers(heap, report, pads, cells)?;
+    format!(heap, "pads{shown_pads} behind cells{shown_cells}")
+}
+
+fn say_numbers(
+    heap: Global,
+    report: &[u16],
+    from: usize,
+    count: usize,
+) -> Result<String, AllocError> {
+    let mut text = String::new(heap);
+    for number in report.iter().skip(from).take(count) {
+        text.push_str(format!(heap, " {number}")?.as_str())?;
+    }
+    Ok(text)
+}
+
+// A character for each cell of a drawing: a letter for each net, capital at its pad, # for a bar, a blank for a free cell.
+pub fn labels<B: Board>(
+    heap: Global,
+    board: &B,
+    drawing: &[Record],
+) -> Result<Vec<char>, AllocError> {
+    let mut labels = vec![in heap; ' '; drawing.len()]?;
+    let mut nets = 0u8;
+    for cell in 0..board.cells() {
+        let record = record_at(drawing, cell);
+        if record.is_barred() {
+            write(&mut labels, cell, '#');
+        } else if record.is_first() {
+            label_net(&mut labels, drawing, cell, nets);
+            nets = (nets + 1) % 26;
+        }
+    }
+    Ok(labels)
+}
+
+fn label_net(labels: &mut Vec<char>, drawing: &[Record], pad: u16, net: u8) {
+    write(labels, pad, (b'A' + net % 26) as char);
+    let mut next = record_at(drawing, pad).after();
+    for _ in 0..drawing.len() {
+        let Some(cell) = next else {
+            break;
+        };
+        write(labels, cell, (b'a' + net % 26) as char);
+        next = record_at(drawing, cell).after();
+    }
+}
+
+fn write(labels: &mut Vec<char>, cell: u16, label: char) {
+    if let Some(place) = labels.get_mut(cell as usize) {
+        *place = label;
+    }
+}
