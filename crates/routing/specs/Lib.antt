@@ -3,4 +3,3 @@ pub mod Courses
 pub mod Showing
 pub mod Outcomes
 pub mod Conditions
-pub mod Barring
