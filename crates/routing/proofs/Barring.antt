@@ -10,8 +10,8 @@ use lib.ListN.{length, getD, set, take, drop}
 use Rattle.std.specs.shelf.Lists.{kept-by}
 use Rattle.std.specs.declared.option.Option.{Option}
 use Rattle.std.specs.declared.option.Option.the-variants.{Some, None}
-use Rattle.std.proofs.shelf.Lists.{getD-set-same, getD-set-other, length-set, ext-getD, take-at}
-use Rattle.std.proofs.shelf.Tests.{both-ways, false≢true, cases-eq, cases-bool, not-from-false, ne-eqb}
+use Rattle.std.proofs.shelf.Lists.{getD-set-same, getD-set-other, length-set, ext-getD}
+use Rattle.std.proofs.shelf.Tests.{both-ways, false≢true, cases-eq, ne-eqb}
 use Rattle.boards.specs.Meaning.{Meaning, pad-at}
 use Rattle.linkages.specs.Lists.{Mem, here, there, Distinct, Within, Same}
 use Rattle.linkages.specs.Paths.{CanBeMet}
@@ -30,7 +30,8 @@ use Rattle.drawings.proofs.Cells.{kept-below, below-kept}
 use Rattle.drawings.proofs.Follow.{run-first, run-net, run-from, run-distinct, run-short, net-run, net-here, net-runs, reached-net}
 use Rattle.drawings.proofs.Freeing.{frees, lift-lawful, lift-wired, lift-bars, cells-same}
 use Rattle.drawings.proofs.Changed.{freed-long, freed-inside, freed-outside}
-use Rattle.routing.specs.Outcomes.{Fence-shown, Wired-also, Barred-also}
+use Rattle.drawings.proofs.Linking.{linked}
+use Rattle.routing.specs.Outcomes.{Zeroed, Fence-shown, Wired-also, Barred-also, Barred-as}
 
 -- ---- a free cell barred
 
@@ -149,26 +150,129 @@ module _ (m : Meaning) (d : List Record) (L : (c : ℕ) → Local m d c) where
 
 -- ---- the net of a pad taken up and a cell of it barred
 
+none-before : (r : Record) → is-first r ≡ true → before-of r ≡ None
+none-before Free e = refl
+none-before Barred e = refl
+none-before (Net None a) e = refl
+none-before (Net (Some s) a) e = absurd (false≢true e)
+
+-- the drawing with the net of q taken up and c barred
+abbrev pub shut-in : List Record → ℕ → ℕ → List Record
+shut-in d q c = set (freed (net d q) d) c Barred
+
 module _ (m : Meaning) (d : List Record) (q c : ℕ) (W : Lawful m d) (p : first-at d q ≡ true) (on : Mem c (net d q)) where
-  taken : List Record
-  taken = freed (net d q) d
+  pub pad-runs : Runs d q (net d q)
+  pad-runs = net-runs m d (W .local) q p
 
-  run : Runs d q (net d q)
-  run = net-runs m d (W .local) q p
+  pub shut-long : length (shut-in d q c) ≡ length d
+  shut-long = length-set (freed (net d q) d) c Barred ∙ freed-long (net d q) d
 
-  pub relaid-whole : laid (net d q) (set (freed (net d q) d) c Barred) ≡ d
-  relaid-whole =
-      let D = set (freed (net d q) d) c Barred in
-      let long : length D ≡ length d = length-set (freed (net d q) d) c Barred ∙ freed-long (net d q) d in
-      ext-getD Free (laid (net d q) D) d (laid-long None (net d q) D ∙ long) (λ k _. go D long k (dec-mem k (net d q)))
+  shut-inside : c < length (freed (net d q) d)
+  shut-inside = subst (λ n. c < n) (sym (freed-long (net d q) d)) (net-inside d c (run-net pad-runs on))
+
+  -- laid again it is as before
+  pub relaid-whole : laid (net d q) (shut-in d q c) ≡ d
+  relaid-whole = ext-getD Free (laid (net d q) (shut-in d q c)) d (laid-long None (net d q) (shut-in d q c) ∙ shut-long) (λ k _. go k (dec-mem k (net d q)))
     where
-      none : (r : Record) → is-first r ≡ true → before-of r ≡ None
-      none Free e = refl
-      none Barred e = refl
-      none (Net None a) e = refl
-      none (Net (Some s) a) e = absurd (false≢true e)
+      go : (k : ℕ) → Dec (Mem k (net d q)) → record-at (laid (net d q) (shut-in d q c)) k ≡ record-at d k
+      go k (yes i) = relaid m d (W .local) (shut-in d q c) None pad-runs (none-before (record-at d q) p)
+          (λ v j. subst (λ n. v < n) (sym shut-long) (net-inside d v (run-net pad-runs j))) i
+      go k (no n) = laid-outside None (net d q) (shut-in d q c) k n ∙
+          (getD-set-other (freed (net d q) d) c k Barred Free (λ e. n (mem-at e on)) ∙ freed-outside (net d q) d k n)
 
-      go : (D : List Record) → length D ≡ length d → (k : ℕ) → Dec (Mem k (net d q)) → record-at (laid (net d q) D) k ≡ record-at d k
-      go D long k (yes i) = relaid m d (W .local) D None (net-runs m d (W .local) q p) (none (record-at d q) p)
-          (λ v j. subst (λ n. v < n) (sym long) (net-inside d v (run-net (net-runs m d (W .local) q p) j))) i
-      go D long k (no n) = ?
+  up-lawful : Lawful m (freed (net d q) d)
+  up-lawful = lift-lawful m d (freed (net d q) d) q W p (frees (net d q) d (freed (net d q) d) refl)
+
+  up-free : record-at (freed (net d q) d) c ≡ Free
+  up-free = freed-inside (net d q) d c on
+
+  pub shut-lawful : Lawful m (shut-in d q c)
+  shut-lawful = bar-lawful m (freed (net d q) d) c up-lawful up-free shut-inside
+
+  shut-wired : wired (shut-in d q c) ≡ without q (wired d)
+  shut-wired = bar-wired m (freed (net d q) d) c up-lawful up-free shut-inside ∙
+      lift-wired m d (freed (net d q) d) q W p (frees (net d q) d (freed (net d q) d) refl)
+
+  -- the pads to be met are the wired pads
+  pub shut-pads : Same (q ∷ wired (shut-in d q c)) (wired d)
+  shut-pads = (
+    λ k i. ⊎-elim
+    (λ (e : k ≡ q). mem-at e (below-kept (first-at d) (length d) q (net-inside d q (first-net (record-at d q) p)) p))
+    (λ j. mem-of-kept (λ x. not (eqb x q)) k (wired d) (subst (Mem k) shut-wired j) .0)
+    (mem-cases i),
+    λ k i. ⊎-elim
+    (λ (e : k ≡ q). here e)
+    (λ ne. there (subst (Mem k) (sym shut-wired) (mem-kept (λ x. not (eqb x q)) i (ap not (ne-eqb k q ne)))))
+    (cases-eq k q),
+  )
+
+  pub shut-bars : Same (bars (shut-in d q c)) (c ∷ bars d)
+  shut-bars =
+      let h = bar-bars m (freed (net d q) d) c up-lawful up-free shut-inside in
+      let e = lift-bars m d (freed (net d q) d) q W p (frees (net d q) d (freed (net d q) d) refl) in
+      subst (λ xs. Same (bars (shut-in d q c)) (c ∷ xs)) e h
+
+  module _ (off : first-at d c ≡ false) where
+    q-away : q ≡ c → ⊥
+    q-away e = both-ways (first-at d c) off (ap (first-at d) (sym e) ∙ p)
+
+    q-free : record-at (shut-in d q c) q ≡ Free
+    q-free = getD-set-other (freed (net d q) d) c q Barred Free q-away ∙ freed-inside (net d q) d q (run-first pad-runs)
+
+    pub q-unwired : first-at (shut-in d q c) q ≡ false
+    q-unwired = ap is-first q-free
+
+    pub q-unbarred : barred-at (shut-in d q c) q ≡ false
+    q-unbarred = ap is-barred q-free
+
+  pub barred-also : (e : List Record) (z : ℕ) → Wired-also m (shut-in d q c) e q z → Barred-also m d e c
+  barred-also e z w =
+      let R = w .rewired in
+      let same = subst (λ xs. Same xs (c ∷ bars d)) (sym (R .same-bars)) shut-bars in
+      record {
+        lawful = R .lawful;
+        same-wired = (λ k i. shut-pads .0 k (R .one-more .0 k i), λ k i. R .one-more .1 k (shut-pads .1 k i));
+        one-more = same;
+      }
+
+  pub fence-barred : (report report′ : List ℕ) (a x : ℕ) → Fence-shown m (bars (shut-in d q c)) (q ∷ wired (shut-in d q c)) report report′ a x →
+      Fence-shown m (c ∷ bars d) (wired d) report report′ a x
+  fence-barred report report′ a x s =
+      let same : (ys : List ℕ) → Same ys ys = λ ys. (λ k i. i, λ k i. i) in
+      record {
+        shown-pads = s .shown-pads;
+        shown-cells = s .shown-cells;
+        pads-counted = s .pads-counted;
+        cells-counted = s .cells-counted;
+        fence = fence-by-members m (bars (shut-in d q c)) (c ∷ bars d) (q ∷ wired (shut-in d q c)) (wired d) (s .shown-pads) (s .shown-pads) (s .shown-cells) (s .shown-cells)
+            shut-bars shut-pads (same (s .shown-pads)) (same (s .shown-cells)) (s .fence .pads-differ) (s .fence .cells-differ) (s .fence);
+        left-out = s .left-out;
+        others = s .others;
+        others-met = linkage-for-less m (bars (shut-in d q c)) (c ∷ bars d) (s .others) (s .others) (λ k i. i) (shut-bars .1) (s .others-met);
+        no-more = λ k i. s .no-more k (shut-pads .1 k i);
+        pads-rise = s .pads-rise;
+        cells-rise = s .cells-rise;
+        writes = s .writes;
+      }
+
+-- ---- the wired pads of a drawing with one bar more can be met with that bar
+
+pub met-barred : (m : Meaning) (d e : List Record) (c : ℕ) → Barred-also m d e c → CanBeMet m (c ∷ bars d) (wired d)
+met-barred m d e c b =
+    linkage-for-less m (bars e) (c ∷ bars d) (wired e) (wired d) (b .same-wired .1) (b .one-more .1) (linked m e (b .lawful) .linkage)
+
+pub as-free : (r : Record) (m : Meaning) (d e : List Record) (work work′ : List ℕ) (c : ℕ) → is-net r ≡ false → is-barred r ≡ false → e ≡ set d c Barred → work′ ≡ work →
+    Barred-as r m d e work work′ c 0
+as-free Free m d e work work′ c n b f g = (refl, f, g)
+as-free Barred m d e work work′ c n b f g = absurd (false≢true (sym b))
+as-free (Net x y) m d e work work′ c n b f g = absurd (false≢true (sym n))
+
+pub as-net : (r : Record) (m : Meaning) (d e : List Record) (work work′ : List ℕ) (c : ℕ) → is-net r ≡ true → Zeroed m work work′ → Barred-as r m d e work work′ c 1
+as-net Free m d e work work′ c n z = absurd (false≢true n)
+as-net Barred m d e work work′ c n z = absurd (false≢true n)
+as-net (Net x y) m d e work work′ c n z = (refl, z)
+
+pub free-is : (r : Record) → is-net r ≡ false → is-barred r ≡ false → r ≡ Free
+free-is Free n b = refl
+free-is Barred n b = absurd (false≢true (sym b))
+free-is (Net x y) n b = absurd (false≢true (sym n))

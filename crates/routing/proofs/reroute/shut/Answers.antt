@@ -1,0 +1,4 @@
+use Rattle.routing.proofs.reroute.shut.Needs as need
+
+pub returns : need.returns
+returns c = ?
