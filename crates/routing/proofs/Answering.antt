@@ -19,7 +19,7 @@ use Rattle.drawings.specs.Nets.{wired, bars}
 use Rattle.drawings.specs.Numbers.{number-of}
 use Rattle.drawings.specs.Conditions.{No-way}
 use Rattle.drawings.proofs.Linking.{linked}
-use Rattle.routing.specs.Conditions.{Place-stopped, Place-refused}
+use Rattle.routing.specs.Conditions.{Place-stopped, Bar-stopped}
 use Rattle.routing.specs.Outcomes.{Zeroed, Fence-shown, Wired-also, Leaves}
 
 -- ---- conditions that come before the search, and the last one
@@ -63,6 +63,10 @@ is-early k n l f (inr q) = f q
 pub place-early : (m : Meaning) (d : List Record) (work report : List ℕ) (c : ℕ) → Early (Place-stopped m d work report c)
 place-early m d work report c n = is-early 1 n (omega arith) (is-early 2 n (omega arith) (is-early 3 n (omega arith) (is-early 4 n (omega arith)
     (is-early 5 n (omega arith) (is-early 6 n (omega arith) (is-early 7 n (omega arith) (λ h. omega (arith, h .0))))))))
+
+pub bar-early : (m : Meaning) (d : List Record) (work report : List ℕ) (c : ℕ) → Early (Bar-stopped m d work report c)
+bar-early m d work report c n = is-early 1 n (omega arith) (is-early 2 n (omega arith) (is-early 3 n (omega arith) (is-early 4 n (omega arith)
+    (is-early 5 n (omega arith) (is-early 9 n (omega arith) (λ h. omega (arith, h .0)))))))
 
 -- ---- whether there is a way
 

@@ -6,3 +6,5 @@ pub mod Trailing
 pub mod Shown
 pub mod Routes
 pub mod Answering
+pub mod Agreeing
+pub mod Barring

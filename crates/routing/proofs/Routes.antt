@@ -76,6 +76,10 @@ module _ (m : Meaning) (d : List Record) (p : ℕ) (pad : pad-at m p ≡ true) (
         cells-counted = ex;
         fence = subst (λ S. Fence m (bars d) (p ∷ S) (shown-pads d E p) (shown-cells d E)) (linked m d W .pads)
             (shown-fences m (bars d) (nets d) p (was-entered E) trapped (shown-pads d E p) (shown-cells d E) (shows m d W p pad-inside E));
+        left-out = p;
+        others = wired d;
+        others-met = linked m d W .linkage;
+        no-more = λ c k. k;
         pads-rise = rising-below (shows-pad d E p) (length d);
         cells-rise = rising-below (shows-cell d E) (length d);
         writes = w;

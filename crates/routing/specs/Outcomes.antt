@@ -3,16 +3,20 @@
 use mathlib.Core.Path.{_≡_}
 use mathlib.Core.List.{List, _∷_, _++_}
 use Prim.Native.Nat.{ℕ, _*_}
-use lib.ListN.{length, drop, replicate}
+use lib.ListN.{length, set, drop, replicate}
 use Rattle.std.specs.declared.result.Result.{Result}
 use Rattle.std.specs.declared.result.Result.the-variants.{Ok, Err}
 use Rattle.boards.specs.Meaning.{Meaning}
-use Rattle.linkages.specs.Lists.{Mem}
+use Rattle.linkages.specs.Lists.{Mem, Within, Same}
+use Rattle.linkages.specs.Paths.{CanBeMet}
 use Rattle.linkages.specs.Fences.{Fence}
 use Rattle.drawings.specs.declared.records.Record.{Record}
+use Rattle.drawings.specs.declared.records.Record.the-variants.{Free, Barred, Net}
 use Rattle.drawings.specs.declared.refusals.Refusal.{Refusal}
 use Rattle.drawings.specs.declared.refusals.Refusal.the-variants.{WrongDrawing, ShortWork, ShortReport, NotLawful, NoSuchCell, NotPad, WiredAlready, NotWired, BarredAlready, NotBarred, WiredPad, NoWay}
 use Rattle.drawings.specs.Nets.{wired, bars, used}
+use Rattle.drawings.specs.Records.{record-at}
+use Rattle.drawings.specs.Lawful.{Lawful}
 use Rattle.drawings.specs.Changes.{written}
 use Rattle.rewiring.specs.Trails.{Rewired}
 use Rattle.routing.specs.Showing.{Rising}
@@ -29,6 +33,11 @@ pub record Fence-shown (m : Meaning) (bars pads report report′ : List ℕ) (pa
   pub pads-counted : pad-count ≡ length shown-pads
   pub cells-counted : cell-count ≡ length shown-cells
   pub fence : Fence m bars pads shown-pads shown-cells
+  -- all of the pads but one can be met
+  pub left-out : ℕ
+  pub others : List ℕ
+  pub others-met : CanBeMet m bars others
+  pub no-more : Within pads (left-out ∷ others)
   pub pads-rise : Rising shown-pads
   pub cells-rise : Rising shown-cells
   pub writes : report′ ≡ written (shown-pads ++ shown-cells) report
@@ -48,6 +57,29 @@ Routed m d e p report report′ (Err k) = (e ≡ d) × Fence-shown m (bars d) (p
 pub record Pad-placed (m : Meaning) (d e : List Record) (work work′ report report′ : List ℕ) (p answer : ℕ) : Type 0 where
   pub wired-also : Wired-also m d e p answer
   pub zeroed : Zeroed m work work′
+  pub report-kept : report′ ≡ report
+
+-- the cell c is barred as well, and the wired pads are the same
+pub record Barred-also (m : Meaning) (d e : List Record) (c : ℕ) : Type 0 where
+  pub lawful : Lawful m e
+  pub same-wired : Same (wired e) (wired d)
+  pub one-more : Same (bars e) (c ∷ bars d)
+
+-- how the search for another way for the pad of a net ends, where c is a cell of the net that is to be barred
+abbrev pub Rerouted : Meaning → List Record → List Record → ℕ → List ℕ → List ℕ → Result ℕ (ℕ × ℕ) → Type 0
+Rerouted m d e c report report′ (Ok z) = Barred-also m d e c × (report′ ≡ report)
+Rerouted m d e c report report′ (Err k) = (e ≡ d) × Fence-shown m (c ∷ bars d) (wired d) report report′ (k .0) (k .1)
+
+-- a free cell is barred without a search: the answer is 0 and nothing else is changed. For a cell on a net the answer is 1
+abbrev pub Barred-as : Record → Meaning → List Record → List Record → List ℕ → List ℕ → ℕ → ℕ → Type 0
+Barred-as Free m d e work work′ c answer = (answer ≡ 0) × (e ≡ set d c Barred) × (work′ ≡ work)
+Barred-as Barred m d e work work′ c answer = ⊥
+Barred-as (Net before after) m d e work work′ c answer = (answer ≡ 1) × Zeroed m work work′
+
+-- an accepted bar
+pub record Cell-barred (m : Meaning) (d e : List Record) (work work′ report report′ : List ℕ) (c answer : ℕ) : Type 0 where
+  pub barred-also : Barred-also m d e c
+  pub as-it-was : Barred-as (record-at d c) m d e work work′ c answer
   pub report-kept : report′ ≡ report
 
 -- a refusal for want of a way, where these are the bars and pads to be met
@@ -75,3 +107,12 @@ Leaves U F BarredAlready = U
 Leaves U F NotBarred = U
 Leaves U F WiredPad = U
 Leaves U F (NoWay pads cells) = F pads cells
+
+-- ---- what is claimed
+
+-- two refusals for want of a way with the same pads and bars to be met show the same pads and the same cells
+abbrev pub Refusals-agree : Type 0
+Refusals-agree = (m : Meaning) (bars pads report report′ : List ℕ) (a x : ℕ) (bars₂ pads₂ report₂ report₂′ : List ℕ) (a₂ x₂ : ℕ) →
+    Same bars bars₂ → Same pads pads₂ →
+    (s : Fence-shown m bars pads report report′ a x) (t : Fence-shown m bars₂ pads₂ report₂ report₂′ a₂ x₂) →
+    (s .shown-pads ≡ t .shown-pads) × (s .shown-cells ≡ t .shown-cells) × (a ≡ a₂) × (x ≡ x₂)

@@ -1,15 +1,14 @@
-// The calls that search for a way.
+// The call place.
 //
-// A call gives the first number whose condition holds, and nothing is changed but where there is no way: then the fence is
-// written to report memory. A call that searches leaves zeros in work memory.
-ghost use Prim.Native.Nat.{ℕ};
+// It gives the first number whose condition holds, and then nothing is changed but where there is no way: there the fence is
+// written to report memory. Once it searches it leaves zeros in work memory.
+ghost use mathlib.Core.List.{_∷_};
 ghost use Rattle.std.specs.Vec.{refused};
 ghost use Rattle.boards.specs.Refusals.{Answer};
 ghost use Rattle.drawings.specs.Nets.{wired, bars};
 ghost use Rattle.drawings.specs.Numbers.{number-of};
 ghost use Rattle.routing.specs.Conditions.{Place-stopped, Placeable, Place-refused};
 ghost use Rattle.routing.specs.Outcomes.{Pad-placed, Fenced, Untouched, Leaves};
-ghost use mathlib.Core.List.{_∷_};
 use crate::route::route_within;
 use crate::route::zero;
 use boards::board::Board;

@@ -9,7 +9,7 @@ use Rattle.drawings.specs.Conditions.{No-way}
 use Rattle.routing.specs.Conditions.{Place-stopped}
 use Rattle.routing.specs.Outcomes.{Zeroed}
 use Rattle.routing.proofs.Answering.{first-early, first-last, none-holds, leaves-early, place-early, can-be-met, no-way, zeroed}
-use Rattle.routing.proofs.calls.place.Needs as need
+use Rattle.routing.proofs.place.place.Needs as need
 
 pub returns-in-Err : need.returns-in-Err
 returns-in-Err g c =
