@@ -22,8 +22,7 @@ use Rattle.drawings.specs.Nets.{first-at, barred-at, wired, bars, without}
 use Rattle.drawings.specs.Conditions.{Lift-refused, Clear-refused}
 use Rattle.drawings.proofs.Cells.{kept-below, below-kept}
 use Rattle.linkages.proofs.Fewer.{linkage-for-less}
-use Rattle.routing.specs.Conditions.{Place-refused}
-use Rattle.routing.specs.Barring.{Bar-refused}
+use Rattle.routing.specs.Conditions.{Place-refused, Bar-refused}
 use Rattle.runs.specs.declared.calls.Kind.the-variants.{Place, Lift, Bar, Clear}
 use Rattle.runs.specs.Histories.{Book}
 use Rattle.runs.specs.Claim.{Refused}

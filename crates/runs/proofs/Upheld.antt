@@ -18,8 +18,7 @@ use Rattle.drawings.specs.Nets.{wired, bars, without}
 use Rattle.drawings.specs.Numbers.{number-of}
 use Rattle.drawings.specs.Lawful.{Lawful}
 use Rattle.drawings.specs.Outcomes.{Lifted, Cleared}
-use Rattle.routing.specs.Barring.{Cell-barred}
-use Rattle.routing.specs.Outcomes.{Leaves, Fenced, Untouched, Pad-placed}
+use Rattle.routing.specs.Outcomes.{Leaves, Fenced, Untouched, Pad-placed, Cell-barred}
 use Rattle.runs.specs.declared.calls.Kind.{Kind}
 use Rattle.runs.specs.declared.calls.Kind.the-variants.{Place, Lift, Bar, Clear}
 use Rattle.runs.specs.Histories.{Event, History, Book, stands, book, entered, fed, pads-to-meet, bars-to-meet}
@@ -108,7 +107,7 @@ module _ (m : Meaning) (h : History) (u : Upholds m h) (c : ℕ) (d e : List Rec
 
   bar-upheld : (r : Result ℕ Refusal) → Performs m Bar c d e work work′ report report′ r → Upheld m (event Bar c d e work work′ report report′ r) h
   bar-upheld (Ok z) P =
-      let w = P .0 .1 in
+      let w = P .0 .1 .barred-also in
       accepted-upheld Bar z (w .lawful) (same-trans (w .same-wired) (S .pads)) (same-trans (w .one-more) (same-more c _ _ (S .barred)))
       (answer-by number-of _ _ (Cell-barred m d e work work′ report report′ c) (bar-to-book m d (book h) S c work report) (bar-from-book m d (book h) S c work report) (Ok z) (P .0))
   bar-upheld (Err r) P =

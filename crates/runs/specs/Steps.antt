@@ -13,9 +13,8 @@ use Rattle.drawings.specs.Nets.{wired, bars}
 use Rattle.drawings.specs.Numbers.{number-of}
 use Rattle.drawings.specs.Conditions.{Lift-refused, Clear-refused}
 use Rattle.drawings.specs.Outcomes.{Lifted, Cleared}
-use Rattle.routing.specs.Conditions.{Place-refused}
-use Rattle.routing.specs.Barring.{Bar-refused, Cell-barred}
-use Rattle.routing.specs.Outcomes.{Pad-placed, Fenced, Untouched, Leaves}
+use Rattle.routing.specs.Conditions.{Place-refused, Bar-refused}
+use Rattle.routing.specs.Outcomes.{Pad-placed, Cell-barred, Fenced, Untouched, Leaves}
 use Rattle.runs.specs.declared.calls.Kind.{Kind}
 use Rattle.runs.specs.declared.calls.Kind.the-variants.{Place, Lift, Bar, Clear}
 use Rattle.runs.specs.Histories.{Event}

@@ -10,8 +10,8 @@ use drawings::calls::clear;
 use drawings::calls::lift;
 use drawings::records::Record;
 use drawings::refusals::Refusal;
-use routing::calls::place as bar;
-use routing::calls::place;
+use routing::bar::bar;
+use routing::place::place;
 
 // Makes the call. Whatever history upholds the claim and ends in this drawing upholds it with this call as well.
 pub fn step<B: Board>(

@@ -16,7 +16,10 @@ returns-in-Lift g c =
     (sym (c .in-Lift .is)) (c .lift .ensures .answer, c .lift .ensures .kept, refl, refl)
 
 pub returns-in-Bar : need.returns-in-Bar
-returns-in-Bar g c = ?
+returns-in-Bar g c =
+    subst (λ (k : Kind). Performs (g .B·Board .meaning (c .args .board .now)) k (c .args .cell) (c .args .drawing .now) (c .bar .last .drawing)
+      (c .args .work .now) (c .bar .last .work) (c .args .report .now) (c .bar .last .report) (c .bar .result))
+    (sym (c .in-Bar .is)) (c .bar .ensures .answer, c .bar .ensures .left)
 
 pub returns-in-Clear : need.returns-in-Clear
 returns-in-Clear g c =
