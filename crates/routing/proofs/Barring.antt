@@ -70,18 +70,18 @@ module _ (m : Meaning) (d : List Record) (c : ℕ) (W : Lawful m d) (free : reco
   pub bar-bars : Same (bars (set d c Barred)) (c ∷ bars d)
   bar-bars = (
     λ k i. let h = kept-below (barred-at (set d c Barred)) (length (set d c Barred)) k i in
-    ⊎-elim
-    (λ (e : k ≡ c). here e)
-    (λ ne. there (below-kept (barred-at d) (length d) k (subst (λ n. k < n) (length-set d c Barred) (h .0)) (sym (ap is-barred (getD-set-other d c k Barred Free ne)) ∙ h .1)))
-    (cases-eq k c),
+        ⊎-elim
+        (λ (e : k ≡ c). here e)
+        (λ ne. there (below-kept (barred-at d) (length d) k (subst (λ n. k < n) (length-set d c Barred) (h .0)) (sym (ap is-barred (getD-set-other d c k Barred Free ne)) ∙ h .1)))
+        (cases-eq k c),
     λ k i. let long = length-set d c Barred in
-    ⊎-elim
-    (λ (e : k ≡ c). below-kept (barred-at (set d c Barred)) (length (set d c Barred)) k (omega arith)
-    (ap (λ v. is-barred (record-at (set d c Barred) v)) e ∙ ap is-barred bar-here))
-    (λ j. let h = kept-below (barred-at d) (length d) k j in
-    let ne : k ≡ c → ⊥ = λ e. false≢true (sym (ap is-barred free) ∙ sym (ap (λ v. is-barred (record-at d v)) e) ∙ h .1) in
-    below-kept (barred-at (set d c Barred)) (length (set d c Barred)) k (omega (arith, h .0)) (ap is-barred (getD-set-other d c k Barred Free ne) ∙ h .1))
-    (mem-cases i),
+        ⊎-elim
+        (λ (e : k ≡ c). below-kept (barred-at (set d c Barred)) (length (set d c Barred)) k (omega arith)
+        (ap (λ v. is-barred (record-at (set d c Barred) v)) e ∙ ap is-barred bar-here))
+        (λ j. let h = kept-below (barred-at d) (length d) k j in
+        let ne : k ≡ c → ⊥ = λ e. false≢true (sym (ap is-barred free) ∙ sym (ap (λ v. is-barred (record-at d v)) e) ∙ h .1) in
+        below-kept (barred-at (set d c Barred)) (length (set d c Barred)) k (omega (arith, h .0)) (ap is-barred (getD-set-other d c k Barred Free ne) ∙ h .1))
+        (mem-cases i),
   )
 
   pub bar-free : Barred-also m d (set d c Barred) c
@@ -197,13 +197,13 @@ module _ (m : Meaning) (d : List Record) (q c : ℕ) (W : Lawful m d) (p : first
   pub shut-pads : Same (q ∷ wired (shut-in d q c)) (wired d)
   shut-pads = (
     λ k i. ⊎-elim
-    (λ (e : k ≡ q). mem-at e (below-kept (first-at d) (length d) q (net-inside d q (first-net (record-at d q) p)) p))
-    (λ j. mem-of-kept (λ x. not (eqb x q)) k (wired d) (subst (Mem k) shut-wired j) .0)
-    (mem-cases i),
+        (λ (e : k ≡ q). mem-at e (below-kept (first-at d) (length d) q (net-inside d q (first-net (record-at d q) p)) p))
+        (λ j. mem-of-kept (λ x. not (eqb x q)) k (wired d) (subst (Mem k) shut-wired j) .0)
+        (mem-cases i),
     λ k i. ⊎-elim
-    (λ (e : k ≡ q). here e)
-    (λ ne. there (subst (Mem k) (sym shut-wired) (mem-kept (λ x. not (eqb x q)) i (ap not (ne-eqb k q ne)))))
-    (cases-eq k q),
+        (λ (e : k ≡ q). here e)
+        (λ ne. there (subst (Mem k) (sym shut-wired) (mem-kept (λ x. not (eqb x q)) i (ap not (ne-eqb k q ne)))))
+        (cases-eq k q),
   )
 
   pub shut-bars : Same (bars (shut-in d q c)) (c ∷ bars d)

@@ -67,7 +67,7 @@ pub fn bar<B: Board>(
     ensures left { λ r. ⌜ refused r (Leaves
         (Untouched (now (drawing .entry)) (now (drawing .exit)) (now (work .entry)) (now (work .exit)) (now (report .entry)) (now (report .exit)))
         (Fenced (meaning (now (board .entry))) (now (drawing .entry)) (now (drawing .exit)) (cell ∷ bars (now (drawing .entry))) (wired (now (drawing .entry)))
-            (now (work .entry)) (now (work .exit)) (now (report .entry)) (now (report .exit)))) ⌝ }
+        (now (work .entry)) (now (work .exit)) (now (report .entry)) (now (report .exit)))) ⌝ }
 {
     if let Err(refusal) = check_bar(board, drawing, work, report, cell) {
         return Err(refusal);

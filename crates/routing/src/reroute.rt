@@ -5,7 +5,6 @@ ghost use Prim.Native.Nat.{_*_, _≤_};
 ghost use lib.ListN.{length, set};
 ghost use Rattle.boards.specs.Meaning.{Meaning};
 ghost use Rattle.linkages.specs.Lists.{Mem};
-ghost use Rattle.drawings.specs.declared.records.Record.the-variants.{Barred as Shut};
 ghost use Rattle.drawings.specs.Nets.{net-at, first-at, net, Runs};
 ghost use Rattle.drawings.specs.Changes.{freed, written};
 ghost use Rattle.drawings.specs.Lawful.{Lawful};
@@ -40,7 +39,7 @@ fn shut(drawing: &mut [Record], pad: u16, cell: u16, saved: &mut [u16]) -> usize
     ensures count { λ r. ⌜ r ≡ length (net (now (drawing .entry)) pad) ⌝ }
     ensures short { λ r. ⌜ r ≤ length (now (saved .entry)) ⌝ }
     ensures saves { λ _. ⌜ now (saved .exit) ≡ written (net (now (drawing .entry)) pad) (now (saved .entry)) ⌝ }
-    ensures bars { λ _. ⌜ now (drawing .exit) ≡ set (freed (net (now (drawing .entry)) pad) (now (drawing .entry))) cell Shut ⌝ }
+    ensures bars { λ _. ⌜ now (drawing .exit) ≡ set (freed (net (now (drawing .entry)) pad) (now (drawing .entry))) cell Record.Barred ⌝ }
 {
     let count = match list_net(drawing, pad, saved) {
         Some(count) => count,
@@ -106,5 +105,15 @@ pub fn reroute_within<B: Board>(
     let (entered, rest) = work.split_at_mut(cells);
     let (queue, rest) = rest.split_at_mut(cells);
     let (from, spare) = rest.split_at_mut(cells);
-    reroute(board, drawing, entered, queue, from, spare, report, pad, cell)
+    reroute(
+        board,
+        drawing,
+        entered,
+        queue,
+        from,
+        spare,
+        report,
+        pad,
+        cell,
+    )
 }

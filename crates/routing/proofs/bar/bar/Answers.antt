@@ -40,7 +40,7 @@ returns-then-not-is-net g c =
     record {
       answer = (
         none-holds (Bar-stopped m d (c .args .work .now) (c .args .report .now) x) (No-way m (x ∷ bars d) (wired d)) (R .0)
-        (λ no. no (met-barred m d (c .put .last .drawing) x B)),
+            (λ no. no (met-barred m d (c .put .last .drawing) x B)),
         record {
           barred-also = B;
           as-it-was = as-free (record-at d x) m d (c .put .last .drawing) (c .args .work .now) (c .args .work .now) x off (R .1 .unbarred) (c .put .ensures) refl;
@@ -62,7 +62,7 @@ returns-in-Ok g c =
     record {
       answer = (
         none-holds (Bar-stopped m d (c .args .work .now) (c .args .report .now) x) (No-way m (x ∷ bars d) (wired d)) (R .0)
-        (λ no. no (met-barred m d (c .reroute-within-found .last .drawing) x (w .0))),
+            (λ no. no (met-barred m d (c .reroute-within-found .last .drawing) x (w .0))),
         record {
           barred-also = w .0;
           as-it-was = as-net (record-at d x) m d (c .reroute-within-found .last .drawing) (c .args .work .now) _ x on

@@ -44,9 +44,11 @@ returns-in-Ok g c =
     let d = c .args .drawing .now in
     let q = c .args .pad in
     let x = c .args .cell in
-    let w = c .in-Ok .ensures tt .routed in
-    (barred-also m d q x (c .pre .lawful) (c .pre .wired) (c .pre .along) (c .route .last .drawing) (c .in-Ok .landing)
-    (subst (λ D. Wired-also m D (c .route .last .drawing) q (c .in-Ok .landing)) (c .shut-count .ensures .bars) (w .0)), w .1)
+    let w = c .in-Ok .ensures tt .routed in (
+      barred-also m d q x (c .pre .lawful) (c .pre .wired) (c .pre .along) (c .route .last .drawing) (c .in-Ok .landing)
+          (subst (λ D. Wired-also m D (c .route .last .drawing) q (c .in-Ok .landing)) (c .shut-count .ensures .bars) (w .0)),
+      w .1,
+    )
 
 -- the net laid again from where it was listed
 again : (d D E : List Record) (xs zs ss ss′ : List ℕ) (n : ℕ) → laid xs D ≡ d → n ≡ length xs → zs ≡ written xs ss → ss′ ≡ zs → E ≡ D → laid (take (n - 0) ss′) E ≡ d
@@ -62,7 +64,9 @@ returns-in-Err g c =
     let x = c .args .cell in
     let w = c .in-Err .ensures tt .routed in
     let F = fence-barred m d q x (c .pre .lawful) (c .pre .wired) (c .pre .along) (c .args .report .now) (c .route .last .report) (c .in-Err .counts .0) (c .in-Err .counts .1)
-    (subst (λ D. Fence-shown m (bars D) (q ∷ wired D) (c .args .report .now) (c .route .last .report) (c .in-Err .counts .0) (c .in-Err .counts .1)) (c .shut-count .ensures .bars) (w .1)) in
-    (c .lay .ensures ∙ again d (shut-in d q x) (c .route .last .drawing) (net d q) (c .shut-count .last .saved) (c .args .spare .now) (c .route .last .spare) (c .shut-count .result)
-    (relaid-whole m d q x (c .pre .lawful) (c .pre .wired) (c .pre .along)) (c .shut-count .ensures .count) (c .shut-count .ensures .saves)
-    (c .in-Err .ensures tt .spared) (w .0 ∙ c .shut-count .ensures .bars), F)
+    (subst (λ D. Fence-shown m (bars D) (q ∷ wired D) (c .args .report .now) (c .route .last .report) (c .in-Err .counts .0) (c .in-Err .counts .1)) (c .shut-count .ensures .bars) (w .1)) in (
+      c .lay .ensures ∙ again d (shut-in d q x) (c .route .last .drawing) (net d q) (c .shut-count .last .saved) (c .args .spare .now) (c .route .last .spare) (c .shut-count .result)
+          (relaid-whole m d q x (c .pre .lawful) (c .pre .wired) (c .pre .along)) (c .shut-count .ensures .count) (c .shut-count .ensures .saves)
+          (c .in-Err .ensures tt .spared) (w .0 ∙ c .shut-count .ensures .bars),
+      F,
+    )
