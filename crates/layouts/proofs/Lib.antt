@@ -1,2 +1,3 @@
 pub mod Laying
 pub mod Linkages
+pub mod Moves
