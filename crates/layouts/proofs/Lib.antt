@@ -1,3 +1,5 @@
 pub mod Laying
 pub mod Linkages
 pub mod Moves
+pub mod Differences
+pub mod Trails
