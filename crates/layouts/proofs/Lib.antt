@@ -3,3 +3,4 @@ pub mod Linkages
 pub mod Moves
 pub mod Differences
 pub mod Trails
+pub mod FieldDrawings
