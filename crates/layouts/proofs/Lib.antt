@@ -4,3 +4,4 @@ pub mod Moves
 pub mod Differences
 pub mod Trails
 pub mod FieldDrawings
+pub mod FieldLayouts

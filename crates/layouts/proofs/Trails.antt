@@ -78,11 +78,11 @@ pub record Ran (R C : ℕ) (bytes : List ℕ) (p : Point) (ps : List Point) : Ty
   pub to-landing : Landing-point C bytes landing
   pub course : Course R C landing p ps
 
-course-firsts : {R C : ℕ} {z p : Point} {ps : List Point} → Course R C z p ps → firsts ps ≡ p ∷ []
+pub course-firsts : {R C : ℕ} {z p : Point} {ps : List Point} → Course R C z p ps → firsts ps ≡ p ∷ []
 course-firsts (stops o e) = refl
 course-firsts (steps o n c) = refl
 
-course-lasts : {R C : ℕ} {z p : Point} {ps : List Point} (q : Point) → Course R C z p ps → lasts (q ∷ ps) ≡ lasts ps
+pub course-lasts : {R C : ℕ} {z p : Point} {ps : List Point} (q : Point) → Course R C z p ps → lasts (q ∷ ps) ≡ lasts ps
 course-lasts q (stops o e) = refl
 course-lasts q (steps o n c) = refl
 
