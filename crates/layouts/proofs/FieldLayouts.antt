@@ -18,8 +18,8 @@ use Rattle.boards.specs.Fields.{field, field-steps, field-landing}
 use Rattle.boards.proofs.Accepted.{accepted-sides}
 use Rattle.boards.proofs.Grids.{cell-below, place-of-cell}
 use Rattle.boards.proofs.MapBoards.{map-bounded}
-use Rattle.linkages.specs.Lists.{Mem, here, there, Within, Same}
-use Rattle.linkages.specs.Paths.{Landing, Unbarred, Walk, stop, step, Path, Linkage}
+use Rattle.linkages.specs.Lists.{Mem, here, there, Distinct}
+use Rattle.linkages.specs.Paths.{Landing, Unbarred, Walk, stop, step, Path, Linkage, upto-landing}
 use Rattle.linkages.proofs.Members.{mem-none, mem-cases, mem-at, mem-map, mem-of-map}
 use Rattle.linkages.proofs.Walks.{walk-first}
 use Rattle.drawings.specs.declared.records.Record.{Record}
@@ -272,3 +272,96 @@ module _ (R C : ℕ) (bytes : List ℕ) (sides : Sides-allowed R C) where
             let d = walk-down barred p (course-start c) (or-left _ _ (G .wires p i .from-pad)) (f (on-layer 1 p) i (pad-occupied Bottom c)) w in
             subst (λ (qs : List Point). Walk (field R C bytes) barred (cell-of R C (on-layer 2 (G .wires p i .landing))) (top-cell R C p) (map (cell-of R C) (map (on-layer 1) qs ++ map (on-layer 2) ps)))
             (sym (course-firsts c)) d
+
+    -- the cells that the wire of a pad occupies, by the pad's cell
+    path : ℕ → List ℕ
+    path c = cells-of (point-at R C c)
+
+    record Pad (c : ℕ) : Type 0 where
+      point : Point
+      is-wired : Mem point wired
+      cell-is : c ≡ top-cell R C point
+      point-is : point-at R C c ≡ point
+
+    pad-of : (c : ℕ) → Mem c (map (top-cell R C) wired) → Pad c
+    pad-of c k =
+        let t = mem-of-map (top-cell R C) c wired k in
+        record {
+          point = t .0;
+          is-wired = t .1;
+          cell-is = t .2;
+          point-is = ap (point-at R C) (t .2) ∙ point-back (t .0) (course-start (G .wires (t .0) (t .1) .course));
+        }
+
+    path-is : (c : ℕ) (h : Pad c) → path c ≡ cells-of (h .point)
+    unfolding path
+    path-is c h = ap cells-of (h .point-is)
+
+    path-walk : (c : ℕ) (h : Pad c) → Walk (field R C bytes) barred (cell-of R C (on-layer 2 (G .wires (h .point) (h .is-wired) .landing))) c (path c)
+    path-walk c h =
+        let z = cell-of R C (on-layer 2 (G .wires (h .point) (h .is-wired) .landing)) in
+        subst (Walk (field R C bytes) barred z c) (sym (path-is c h))
+        (subst (λ (a : ℕ). Walk (field R C bytes) barred z a (cells-of (h .point))) (sym (h .cell-is)) (wire-walk (h .point) (h .is-wired)))
+
+    -- no two of the places that a wire occupies have one cell
+    cells-differ : (p : Point) → Mem p wired → Different (cells-of p)
+    cells-differ p i =
+        different-map (cell-of R C) (occupied (layout p)) (λ x y j k. cell-one x y (occupied-on p x i j) (occupied-on p y i k))
+        (occupied-differ (layout p .layer) (layout p .points) (G .wires p i .different))
+
+    linkage : Linkage (field R C bytes) barred (map (top-cell R C) wired)
+    linkage = record {
+      path = path;
+      end = λ c. last-of 0 (path c);
+      runs = λ c k.
+          let h = pad-of c k in
+          let w = path-walk c h in
+          record {
+            walk = subst (λ (z : ℕ). Walk (field R C bytes) barred z c (path c)) (sym (walk-last-of 0 w)) w;
+            distinct = subst Distinct (sym (path-is c h)) (distinct-from (cells-of (h .point)) (cells-differ (h .point) (h .is-wired)));
+          };
+      lands = λ c k.
+          let h = pad-of c k in
+          let g = G .wires (h .point) (h .is-wired) in
+          subst (Landing (field R C bytes)) (sym (walk-last-of 0 (path-walk c h)))
+          (landing-cell (g .landing) (course-on-map (g .course) (mem-lasts (layout (h .point) .points) (course-last (g .course)))) (g .to-landing));
+      apart = λ c d x k l i j.
+          let g = pad-of c k in
+          let h = pad-of d l in
+          let s = mem-of-map (cell-of R C) x (occupied (layout (g .point))) (subst (Mem x) (path-is c g) i) in
+          let t = mem-of-map (cell-of R C) x (occupied (layout (h .point))) (subst (Mem x) (path-is d h) j) in
+          let o = cell-one (s .0) (t .0) (occupied-on (g .point) (s .0) (g .is-wired) (s .1)) (occupied-on (h .point) (t .0) (h .is-wired) (t .1)) (sym (s .2) ∙ t .2) in
+          g .cell-is ∙ ap (top-cell R C) (G .apart (g .point) (h .point) (s .0) (g .is-wired) (h .is-wired) (s .1) (mem-at o (t .1))) ∙ sym (h .cell-is);
+    }
+
+    barred-cells : (c : ℕ) → Mem c barred → c < 2 * (R * C)
+    unfolding barred
+    barred-cells c k =
+        let t = mem-of-map (cell-of R C) c bars k in
+        subst (λ (x : ℕ). x < 2 * (R * C)) (sym (t .2)) (cell-below R C (sides .0) (sides .2) 2 (t .0) (G .bars-on-map (t .0) (t .1)))
+
+    pads-are-pads : (c : ℕ) → Mem c (map (top-cell R C) wired) → pad-at (field R C bytes) c ≡ true
+    pads-are-pads c k =
+        let h = pad-of c k in
+        let g = G .wires (h .point) (h .is-wired) in
+        ap (pad-at (field R C bytes)) (h .cell-is) ∙ pad-cell (h .point) (course-start (g .course)) (g .from-pad)
+
+    pub draws : (d : List Record) × Draws R C bytes wired bars layout d
+    unfolding barred path linkage
+    draws =
+        let h = linkages-draw (field R C bytes) barred (map (top-cell R C) wired) field-bounded barred-cells pads-are-pads linkage in
+        (h .0, record {
+          lawful = h .1 .lawful;
+          same-pads = h .1 .same-pads;
+          same-bars = h .1 .same-bars;
+          nets = λ p i.
+              h .1 .nets (top-cell R C p) (mem-map (top-cell R C) i)
+              ∙ ap (λ q. upto-landing (field R C bytes) (cells-of q)) (point-back p (course-start (G .wires p i .course)));
+        })
+
+    pub links : Linkage (field R C bytes) (map (cell-of R C) bars) (map (top-cell R C) wired)
+    unfolding barred
+    links = linkage
+
+pub layouts-are-drawings : Layouts-are-drawings
+layouts-are-drawings R C bytes wired bars layout good G = draws R C bytes (accepted-sides FieldMap R C bytes good) wired bars layout G

@@ -5,3 +5,4 @@ pub mod Differences
 pub mod Trails
 pub mod FieldDrawings
 pub mod FieldLayouts
+pub mod FieldWays
