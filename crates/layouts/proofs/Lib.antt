@@ -6,3 +6,4 @@ pub mod Trails
 pub mod FieldDrawings
 pub mod FieldLayouts
 pub mod FieldWays
+pub mod Readers

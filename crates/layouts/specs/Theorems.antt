@@ -15,6 +15,7 @@ use Rattle.linkages.specs.Paths.{CanBeMet, Linkage, upto-landing}
 use Rattle.drawings.specs.declared.records.Record.{Record}
 use Rattle.drawings.specs.Nets.{wired, bars, net}
 use Rattle.drawings.specs.Lawful.{Lawful}
+use Rattle.drawings.specs.Conditions.{No-way}
 use Rattle.layouts.specs.declared.wires.Point.{Point}
 use Rattle.layouts.specs.Layouts.{Wire, Legal, on-layer, occupied}
 use Rattle.layouts.specs.Readings.{point-of, layout-of}
@@ -66,15 +67,24 @@ abbrev pub Layouts-are-drawings : Type 0
 Layouts-are-drawings = (R C : ℕ) (bytes : List ℕ) (pads : List Point) (barred : List Place) (layout : Point → Wire) →
     Field-map R C bytes → Legal R C bytes pads barred layout → (d : List Record) × Draws R C bytes pads barred layout d
 
--- so pads of a field can be met under bars exactly if there is a legal layout of them, and a call that is refused for want
--- of a way is refused for want of a legal layout
+-- so pads of a field can be met under bars exactly if there is a legal layout of them, and there is no way exactly if there is none
 pub record Met-by-layouts (R C : ℕ) (bytes : List ℕ) (bars-met pads : List ℕ) : Type 0 where
   pub met : CanBeMet (field R C bytes) bars-met pads →
       (layout : Point → Wire) × Legal R C bytes (map (point-at R C) pads) (map (place-of R C) bars-met) layout
   pub meets : (layout : Point → Wire) → Legal R C bytes (map (point-at R C) pads) (map (place-of R C) bars-met) layout →
       CanBeMet (field R C bytes) bars-met pads
+  pub no-way : No-way (field R C bytes) bars-met pads →
+      (layout : Point → Wire) → Legal R C bytes (map (point-at R C) pads) (map (place-of R C) bars-met) layout → ⊥
+  pub no-layout : ((layout : Point → Wire) → Legal R C bytes (map (point-at R C) pads) (map (place-of R C) bars-met) layout → ⊥) →
+      No-way (field R C bytes) bars-met pads
 
 abbrev pub Ways-are-layouts : Type 0
 Ways-are-layouts = (R C : ℕ) (bytes : List ℕ) (bars-met pads : List ℕ) → Field-map R C bytes →
     ((c : ℕ) → Mem c bars-met → c < field R C bytes .cells) → ((c : ℕ) → Mem c pads → pad-at (field R C bytes) c ≡ true) →
     Met-by-layouts R C bytes bars-met pads
+
+-- all of it
+pub record Field-layouts : Type 0 where
+  pub drawings-are-layouts : Drawings-are-layouts
+  pub layouts-are-drawings : Layouts-are-drawings
+  pub ways-are-layouts : Ways-are-layouts
