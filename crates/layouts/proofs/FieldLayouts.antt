@@ -349,15 +349,17 @@ module _ (R C : ℕ) (bytes : List ℕ) (sides : Sides-allowed R C) where
     pub draws : (d : List Record) × Draws R C bytes wired bars layout d
     unfolding barred path linkage
     draws =
-        let h = linkages-draw (field R C bytes) barred (map (top-cell R C) wired) field-bounded barred-cells pads-are-pads linkage in
-        (h .0, record {
-          lawful = h .1 .lawful;
-          same-pads = h .1 .same-pads;
-          same-bars = h .1 .same-bars;
-          nets = λ p i.
-              h .1 .nets (top-cell R C p) (mem-map (top-cell R C) i)
-              ∙ ap (λ q. upto-landing (field R C bytes) (cells-of q)) (point-back p (course-start (G .wires p i .course)));
-        })
+        let h = linkages-draw (field R C bytes) barred (map (top-cell R C) wired) field-bounded barred-cells pads-are-pads linkage in (
+          h .0,
+          record {
+            lawful = h .1 .lawful;
+            same-pads = h .1 .same-pads;
+            same-bars = h .1 .same-bars;
+            nets = λ p i.
+                h .1 .nets (top-cell R C p) (mem-map (top-cell R C) i)
+                ∙ ap (λ q. upto-landing (field R C bytes) (cells-of q)) (point-back p (course-start (G .wires p i .course)));
+          },
+        )
 
     pub links : Linkage (field R C bytes) (map (cell-of R C) bars) (map (top-cell R C) wired)
     unfolding barred

@@ -50,20 +50,22 @@ module _ (R C : ℕ) (bytes : List ℕ) (barred pads : List ℕ) (good : Field-m
 
   met : CanBeMet (field R C bytes) barred pads → (layout : Point → Wire) × Layout layout
   met L =
-      let h = linkages-draw (field R C bytes) barred pads (field-bounded R C bytes sides) inside are-pads L in
-      (layout-of R C (h .0), legal-by-members
-      (within-map (point-at R C) _ pads (h .1 .same-pads .0))
-      (within-map (point-at R C) pads _ (h .1 .same-pads .1))
-      (within-map (place-of R C) barred _ (h .1 .same-bars .1))
-      (reads R C bytes sides (h .0) (h .1 .lawful) .legal))
+      let h = linkages-draw (field R C bytes) barred pads (field-bounded R C bytes sides) inside are-pads L in (
+        layout-of R C (h .0),
+        legal-by-members
+            (within-map (point-at R C) _ pads (h .1 .same-pads .0))
+            (within-map (point-at R C) pads _ (h .1 .same-pads .1))
+            (within-map (place-of R C) barred _ (h .1 .same-bars .1))
+            (reads R C bytes sides (h .0) (h .1 .lawful) .legal),
+      )
 
   meets : (layout : Point → Wire) → Layout layout → CanBeMet (field R C bytes) barred pads
   meets layout G =
       linkage-for-less (field R C bytes) (map (cell-of R C) (map (place-of R C) barred)) barred (map (top-cell R C) (map (point-at R C) pads)) pads
       (λ c k.
-          let below = paths-stay-on-board .pads-are-cells (field R C bytes) c (field-bounded R C bytes sides) (are-pads c k) in
-          let e = pad-back R C bytes sides c (sym (pad-is R C bytes sides c below) ∙ are-pads c k) in
-          mem-at (sym e) (mem-map (top-cell R C) (mem-map (point-at R C) k)))
+      let below = paths-stay-on-board .pads-are-cells (field R C bytes) c (field-bounded R C bytes sides) (are-pads c k) in
+      let e = pad-back R C bytes sides c (sym (pad-is R C bytes sides c below) ∙ are-pads c k) in
+      mem-at (sym e) (mem-map (top-cell R C) (mem-map (point-at R C) k)))
       (λ c k. mem-at (sym (cell-of-place R C (sides .0) (sides .2) c)) (mem-map (cell-of R C) (mem-map (place-of R C) k)))
       (links R C bytes sides (map (point-at R C) pads) (map (place-of R C) barred) layout G)
 

@@ -98,10 +98,10 @@ module _ (R C : ℕ) (bytes : List ℕ) (sides : Sides-allowed R C) where
     gone (there (there (there (there (here e))))) =
         goes-by Down
         (λ q g l t n.
-            let a = on .layer-from in
-            let b = g .layer-to in
-            let x = l .0 in
-            down (omega arith) (place-eq q (on-layer 2 (point-of p)) (omega arith) (l .1) (l .2)) t)
+        let a = on .layer-from in
+        let b = g .layer-to in
+        let x = l .0 in
+        down (omega arith) (place-eq q (on-layer 2 (point-of p)) (omega arith) (l .1) (l .2)) t)
         (beside 2 R C p Down) refl (sym e)
     gone (there (there (there (there (there k))))) = absurd (mem-none k)
 

@@ -146,8 +146,8 @@ module _ (R C : ℕ) (bytes : List ℕ) where
         point-of p ∷ r .0,
         record { landing = r .1 .landing; to-landing = r .1 .to-landing; course = steps (on-map p o) b (r .1 .course) },
         ap (λ q. q ∷ (map (on-layer 1) (r .0) ++ map (on-layer 2) (lasts (point-of p ∷ r .0)))) (put-back 1 p e)
-        ∙ ap (λ qs. p ∷ (map (on-layer 1) (r .0) ++ map (on-layer 2) qs)) (course-lasts (point-of p) (r .1 .course))
-        ∙ ap (λ qs. p ∷ qs) (r .2),
+            ∙ ap (λ qs. p ∷ (map (on-layer 1) (r .0) ++ map (on-layer 2) qs)) (course-lasts (point-of p) (r .1 .course))
+            ∙ ap (λ qs. p ∷ qs) (r .2),
       )
   top (moves {p = p} {q = q} {ps = ps} o f (down l g h) t) e n =
       let k = way-down p e n h in

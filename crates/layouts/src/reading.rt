@@ -53,7 +53,10 @@ fn net_layer<B: PlacedBoard>(board: &B, drawing: &[Record], pad: u16) -> Layer
     let Some(second) = record_at(drawing, pad).after() else {
         return Layer::Top;
     };
-    if is_right_below(place_or_nowhere(board, pad), place_or_nowhere(board, second)) {
+    if is_right_below(
+        place_or_nowhere(board, pad),
+        place_or_nowhere(board, second),
+    ) {
         Layer::Bottom
     } else {
         Layer::Top

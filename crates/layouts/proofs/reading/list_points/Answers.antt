@@ -58,8 +58,8 @@ loop-next-again g c =
       omega (arith, inv .1, ap length (h .1), n .counted),
       long ∙ inv .2,
       ap (λ us. us ++ points-on l (places-of ps (net d t))) (n .front)
-      ∙ append-assoc (take i zs) (points-on l (p ∷ [])) (points-on l (places-of ps (net d t)))
-      ∙ sym (ap (λ us. take i zs ++ us) (cell-point ps l p x (net d x) (net d t) (c .place-or-nowhere .ensures) (h .1))) ∙ inv .3,
+          ∙ append-assoc (take i zs) (points-on l (p ∷ [])) (points-on l (places-of ps (net d t)))
+          ∙ sym (ap (λ us. take i zs ++ us) (cell-point ps l p x (net d x) (net d t) (c .place-or-nowhere .ensures) (h .1))) ∙ inv .3,
       back zs ys (c .args .points .now) i r (length (points-on l (p ∷ []))) (n .counted) (n .back) (inv .4),
     )
 
