@@ -7,3 +7,4 @@ pub mod FieldDrawings
 pub mod FieldLayouts
 pub mod FieldWays
 pub mod Readers
+pub mod WorkedMaps
