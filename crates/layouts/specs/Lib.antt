@@ -1,0 +1,4 @@
+pub mod Layouts
+pub mod Readings
+pub mod Theorems
+pub mod Examples

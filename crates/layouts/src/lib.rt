@@ -1,0 +1,5 @@
+// Layouts: the wires of the two-layer pin redistribution problem, and how a field's drawing reads as such a layout.
+pub mod examples;
+pub mod reading;
+pub mod theorems;
+pub mod wires;
