@@ -6,3 +6,4 @@ pub mod MapBoards
 pub mod Accepted
 pub mod Masks
 pub mod Kept
+pub mod SmallBoards

@@ -8,3 +8,5 @@ pub mod MapMade
 pub mod Fields
 pub mod Escapes
 pub mod KeepOuts
+pub mod Counts
+pub mod SmallBoards

@@ -3,6 +3,7 @@
 // `Board` is what the router sees, `PlacedBoard` adds where each cell lies. `Field` and `Escape` are made from maps,
 // and a `KeepOut` closes cells of any board.
 pub mod board;
+pub mod count;
 pub mod escape;
 pub mod field;
 mod grid;
@@ -12,3 +13,6 @@ pub mod maps;
 mod one_cell;
 pub mod place;
 pub mod refusal;
+pub mod small;
+#[cfg(test)]
+mod tests;
