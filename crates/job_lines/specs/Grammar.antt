@@ -49,13 +49,13 @@ spelled f = spaced (words f)
 abbrev pub Well-formed : Form → Type 0
 Well-formed (field r c) = Number r × Number c
 Well-formed (escape r c) = Number r × Number c
-Well-formed (pad n r c) = Name n × (Number r × Number c)
+Well-formed (pad n r c) = Name n × Number r × Number c
 Well-formed (land r c) = Number r × Number c
-Well-formed (keep l r c) = Number l × (Number r × Number c)
+Well-formed (keep l r c) = Number l × Number r × Number c
 Well-formed (place n) = Name n
 Well-formed (lift n) = Name n
-Well-formed (bar l r c) = Number l × (Number r × Number c)
-Well-formed (clear l r c) = Number l × (Number r × Number c)
+Well-formed (bar l r c) = Number l × Number r × Number c
+Well-formed (clear l r c) = Number l × Number r × Number c
 Well-formed (show n) = Name n
 
 -- what a line of the code says

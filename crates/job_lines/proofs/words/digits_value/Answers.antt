@@ -10,12 +10,23 @@ use Rattle.std.proofs.shelf.Digits.{digits-more, value-more}
 use Rattle.std.proofs.shelf.Numerals.{digit-at, value-short}
 use Rattle.job_lines.proofs.Digits.{own, digit-value}
 use Rattle.job_lines.proofs.words.digits_value.Needs as need
+use Rattle.job_lines.proofs.words.digits_value.Needs.{then-b-lt48·by·then-b-lt48, then-b-lt48·by·else-b-lt48·then-b-gt57}
 
 pub returns-then-b-lt48 : need.returns-then-b-lt48
-returns-then-b-lt48 c = ?
+returns-then-b-lt48 c = λ ds.
+    let d = digit-at (c .args .word .now) (c .loop-b .b-index) ds (c .loop-b-test .taken) in
+    elim (c .then-b-lt48 .came) [
+      | then-b-lt48·by·then-b-lt48 w ↦ omega (arith, w .if-b-lt48 .taken)
+      | then-b-lt48·by·else-b-lt48·then-b-gt57 w ↦ omega (arith, w .if-b-gt57 .taken)
+    ]
 
 pub mul-sum : need.mul-sum
 mul-sum c =
+    let short : length (take (c .loop-b .b-index) (c .args .word .now)) ≤ 3 = simp length-take (omega arith) in
+    omega (arith, value-short own (take (c .loop-b .b-index) (c .args .word .now)) 3 (c .loop-b .inv .0) short, c .loop-b .inv .1)
+
+pub add-sum : need.add-sum
+add-sum c =
     let short : length (take (c .loop-b .b-index) (c .args .word .now)) ≤ 3 = simp length-take (omega arith) in
     omega (arith, value-short own (take (c .loop-b .b-index) (c .args .word .now)) 3 (c .loop-b .inv .0) short, c .loop-b .inv .1)
 
