@@ -29,3 +29,7 @@ one-cut b (x ∷ front) rest (y ∷ front′) rest′ h k e =
     let e₀ = both .0 in
     let e₁ : x ≡ y = cc in
     (cc, both .1)
+
+-- the parts of a cut are those of any other writing that is cut by the byte
+pub same-parts : (b : ℕ) (text word rest front back : List ℕ) → Lacks b word × (text ≡ word ++ b ∷ rest) → Lacks b front → text ≡ front ++ b ∷ back → (word ≡ front) × (rest ≡ back)
+same-parts b text word rest front back h k e = one-cut b word rest front back (h .0) k (sym (h .1) ∙ e)

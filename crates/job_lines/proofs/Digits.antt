@@ -34,13 +34,13 @@ number-short n h = length-decimal-le 4 n (omega arith) (omega arith) (omega arit
 pub no-leading-zero : (n : ℕ) → Number n → 1 < length (decimal n) → getD (decimal n) 0 0 ≡ 48 → ⊥
 no-leading-zero n h long e =
     ⊎-elim
-      (λ z. let short = length-decimal-le 1 n (omega arith) (omega arith) (omega arith) in omega arith)
-      (λ nz. let first = first-decimal n (omega arith) (omega arith) in omega arith)
-      (cases-eq n 0)
+    (λ z. let short = length-decimal-le 1 n (omega arith) (omega arith) (omega arith) in omega arith)
+    (λ nz. let first = first-decimal n (omega arith) (omega arith) in omega arith)
+    (cases-eq n 0)
 
 -- the value of digits with no leading zero is the number that they write
 pub number-read : (word : List ℕ) (r : Option ℕ) → 0 < length word → length word ≤ 4 → (1 < length word → getD word 0 0 ≡ 48 → ⊥)
-  → Cases r (Digits 10 word → ⊥) (λ n. Digits 10 word × (n ≡ value 10 word)) → Reads Number decimal word r
+    → Cases r (Digits 10 word → ⊥) (λ n. Digits 10 word × (n ≡ value 10 word)) → Reads Number decimal word r
 number-read word (Some n) some short lead h =
     let below = value-short own word 4 (h .0) short in
     let one : getD word 0 0 ≡ 48 → length word ≡ 1 = λ e. ⊎-elim (λ k. k) (λ k. absurd (lead (omega arith) e)) (cases-eq (length word) 1) in

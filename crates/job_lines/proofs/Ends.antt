@@ -20,18 +20,18 @@ lines-whole b (x ∷ line) h = cond-false _ _ _ (ne-eqb b 10 (h .0)) ∙ ap (beg
 -- a text with an LF
 pub first-of-more : (text line rest : List ℕ) → Lacks 10 line → text ≡ line ++ 10 ∷ rest → First-line text line rest
 first-of-more text line rest h e = record {
-    whole = h;
-    parts = inl e;
-    first = ap lines-of e ∙ lines-cut line rest h;
-    shorter = omega (arith, simp length-append at (ap length e))
-  }
+  whole = h;
+  parts = inl e;
+  first = ap lines-of e ∙ lines-cut line rest h;
+  shorter = omega (arith, simp length-append at (ap length e));
+}
 
 -- a text with none
 pub first-of-one : (text line rest : List ℕ) → 0 < length text → Lacks 10 text → line ≡ text → rest ≡ [] → First-line text line rest
 first-of-one [] line rest some h e k = let z : ⊥ = omega arith in absurd z
 first-of-one (b ∷ text) line rest some h e k = record {
-    whole = rw e h;
-    parts = inr (sym e, k);
-    first = rw (e, k) (lines-whole b text h);
-    shorter = omega (arith, ap length k)
-  }
+  whole = rw e h;
+  parts = inr (sym e, k);
+  first = rw (e, k) (lines-whole b text h);
+  shorter = omega (arith, ap length k);
+}

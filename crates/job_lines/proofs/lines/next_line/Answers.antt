@@ -16,5 +16,5 @@ pub returns-in-None : need.returns-in-None
 returns-in-None c =
     let text = c .args .text .now in
     first-of-one text _ _ (omega arith) (c .in-None .ensures tt)
-      (c .split-at .ensures .front ∙ take-all (length text) text (omega arith))
-      (c .split-at .ensures .back ∙ drop-all (length text) text (omega arith))
+    (c .split-at .ensures .front ∙ take-all (length text) text (omega arith))
+    (c .split-at .ensures .back ∙ drop-all (length text) text (omega arith))

@@ -35,9 +35,10 @@ loop-b-again c =
     let word = c .args .word .now in
     let i = c .loop-b .b-index in
     let e = digit-value (getD word i 0) (omega arith) (omega arith) in
-    let d : digitValue (getD word i 0) < 10 = rw e (omega arith) in
-    (digits-more 10 word i (c .loop-b-test .taken) (c .loop-b .inv .0) d,
-     omega (arith, value-more 10 word i (c .loop-b-test .taken), e, c .loop-b .inv .1))
+    let d : digitValue (getD word i 0) < 10 = rw e (omega arith) in (
+      digits-more 10 word i (c .loop-b-test .taken) (c .loop-b .inv .0) d,
+      omega (arith, value-more 10 word i (c .loop-b-test .taken), e, c .loop-b .inv .1),
+    )
 
 pub returns : need.returns
 returns c = rw (take-all (c .loop-b .b-index) (c .args .word .now) (c .loop-b-test .left)) at (c .loop-b .inv)

@@ -7,9 +7,11 @@ use Rattle.job_lines.specs.Words.{Name-byte}
 use Rattle.job_lines.proofs.words.is_name.Needs as need
 
 pub returns-then-not-is-name-byte : need.returns-then-not-is-name-byte
-returns-then-not-is-name-byte c =
-    (λ e. absurd (false≢true e), λ n.
-      c .if-not-is-name-byte .ensures tt .1 (all-getD Name-byte (c .args .word .now) (c .loop-b .b-index) 0 (c .loop-b-test .taken) (n .bytes)))
+returns-then-not-is-name-byte c = (
+  λ e. absurd (false≢true e),
+  λ n.
+      c .if-not-is-name-byte .ensures tt .1 (all-getD Name-byte (c .args .word .now) (c .loop-b .b-index) 0 (c .loop-b-test .taken) (n .bytes)),
+)
 
 pub loop-b-again : need.loop-b-again
 loop-b-again c =

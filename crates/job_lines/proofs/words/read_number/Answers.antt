@@ -20,8 +20,8 @@ returns-then-word-eq48 c = λ n fit e.
 pub returns : need.returns
 returns c =
     number-read (c .args .word .now) (c .digits-value .result) (omega arith) (omega arith)
-      (λ long zero-first. elim (c .else-word-gt1 .came) [
-        | else-word-gt1·by·then-word-gt1·else-word-eq48 w ↦ w .if-word-eq48 .left zero-first
-        | else-word-gt1·by·else-word-gt1 w ↦ omega (arith, w .if-word-gt1 .left)
-      ])
-      (c .digits-value .ensures)
+    (λ long zero-first. elim (c .else-word-gt1 .came) [
+      | else-word-gt1·by·then-word-gt1·else-word-eq48 w ↦ w .if-word-eq48 .left zero-first
+      | else-word-gt1·by·else-word-gt1 w ↦ omega (arith, w .if-word-gt1 .left)
+    ])
+    (c .digits-value .ensures)
