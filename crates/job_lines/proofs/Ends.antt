@@ -1,13 +1,14 @@
 -- The first line of a text.
 use mathlib.Core.Path.{_≡_, refl, sym, ap, _∙_}
-use mathlib.Core.List.{List, [], _∷_, _++_}
+use mathlib.Core.List.{List, [], _∷_, _++_, append-assoc}
 use mathlib.Core.Logic.{inl, inr}
 use Prim.Native.Nat.{ℕ, _+_, _<_}
 use native.Mathlib.Omega.{arith}
 use lib.ListN.{length, length-append}
 use Rattle.std.proofs.shelf.Tests.{ne-eqb, cond-false}
+use Rattle.std.specs.shelf.Lists.{All}
 use Rattle.job_lines.specs.Words.{Lacks}
-use Rattle.job_lines.specs.Lines.{begins, lines-of, First-line}
+use Rattle.job_lines.specs.Lines.{begins, lines-of, First-line, ended, Lines-come-back}
 
 pub lines-cut : (line rest : List ℕ) → Lacks 10 line → lines-of (line ++ 10 ∷ rest) ≡ line ∷ lines-of rest
 lines-cut [] rest h = refl
@@ -35,3 +36,20 @@ first-of-one (b ∷ text) line rest some h e k = record {
   first = rw (e, k) (lines-whole b text h);
   shorter = omega (arith, ap length k);
 }
+
+ended-lines : (lines : List (List ℕ)) → All (Lacks 10) lines → lines-of (ended lines) ≡ lines
+ended-lines [] h = refl
+ended-lines (line ∷ lines) h = lines-cut line (ended lines) (h .0) ∙ ap (λ (ls : List (List ℕ)). line ∷ ls) (ended-lines lines (h .1))
+
+one-line : (last : List ℕ) → Lacks 10 last → 0 < length last → lines-of last ≡ last ∷ []
+one-line [] k some = let z : ⊥ = omega arith in absurd z
+one-line (b ∷ last) k some = lines-whole b last k
+
+open-lines : (lines : List (List ℕ)) (last : List ℕ) → All (Lacks 10) lines → Lacks 10 last → 0 < length last → lines-of (ended lines ++ last) ≡ lines ++ last ∷ []
+open-lines [] last h k some = one-line last k some
+open-lines (line ∷ lines) last h k some =
+    ap lines-of (append-assoc line (10 ∷ ended lines) last) ∙ lines-cut line (ended lines ++ last) (h .0)
+    ∙ ap (λ (ls : List (List ℕ)). line ∷ ls) (open-lines lines last (h .1) k some)
+
+pub come-back : Lines-come-back
+come-back = record { with-the-last = ended-lines; without-it = open-lines }

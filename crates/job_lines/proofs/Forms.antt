@@ -2,18 +2,21 @@
 use mathlib.Core.Path.{_≡_, refl, sym, ap, subst, _∙_}
 use mathlib.Core.Bool.{cond}
 use mathlib.Core.List.{List, _∷_, _++_}
-use Prim.Native.Nat.{ℕ}
+use Prim.Native.Nat.{ℕ, _<_}
+use native.Mathlib.Omega.{arith}
 use Rattle.std.specs.declared.option.Option.{Option}
 use Rattle.std.specs.declared.option.Option.the-variants.{Some, None}
+use Rattle.std.specs.Written.{decimal}
 use Rattle.std.specs.shelf.Text.{sameBytes}
+use Rattle.std.proofs.shelf.Decimals.{same-from-decimal}
 use Rattle.job_lines.specs.declared.verb.Verb.{Verb}
 use Rattle.job_lines.specs.declared.verb.Verb.the-variants.{Field, Escape, Pad, Land, Keep, Place, Lift, Bar, Clear, Show}
-use Rattle.job_lines.specs.Words.{Lacks, Name, Reads}
+use Rattle.job_lines.specs.Words.{Lacks, Name, Number, Reads}
 use Rattle.job_lines.specs.Verbs.{keyword}
-use Rattle.job_lines.specs.Grammar.{Form, field, escape, pad, land, keep, place, lift, bar, clear, show, spelled, Well-formed}
+use Rattle.job_lines.specs.Grammar.{Form, field, escape, pad, land, keep, place, lift, bar, clear, show, spelled, Well-formed, Spellings-differ}
 use Rattle.job_lines.specs.Rests.{Point, point-text, Cell, cell-text, Pad-point, pad-text, verb-of, rest-of}
-use Rattle.job_lines.proofs.Cuts.{same-parts}
-use Rattle.job_lines.proofs.Spaceless.{keyword-lacks}
+use Rattle.job_lines.proofs.Cuts.{same-parts, one-cut}
+use Rattle.job_lines.proofs.Spaceless.{keyword-lacks, number-lacks, name-lacks}
 
 -- what is to be read after a verb
 abbrev Rest : Verb → Type 0
@@ -134,6 +137,10 @@ named Bar = refl
 named Clear = refl
 named Show = refl
 
+-- one verb to a keyword
+one-verb : (v w : Verb) → keyword v ≡ keyword w → v ≡ w
+one-verb v w e = sym (named v) ∙ ap verb-named e ∙ named w
+
 -- a line is read where its verb and its rest are
 pub line-read : (bytes word rest : List ℕ) (v : Verb) (r : Option Form) → Lacks 32 word × (bytes ≡ word ++ 32 ∷ rest) → word ≡ keyword v
     → Reads (λ f. (verb-of f ≡ v) × Well-formed f) rest-of rest r → Reads Well-formed spelled bytes r
@@ -145,4 +152,78 @@ line-read bytes word rest v (Some f) h e k =
     (k .0 .1, cc)
 line-read bytes word rest v None h e k = λ f fit s.
     let both = same-parts 32 bytes word rest (keyword (verb-of f)) (rest-of f) h (keyword-lacks (verb-of f)) (s ∙ spelled-is f) in
-    k f (sym (named (verb-of f)) ∙ ap verb-named (sym (both .0) ∙ e) ∙ named v, fit) (both .1)
+    k f (one-verb (verb-of f) v (sym (both .0) ∙ e), fit) (both .1)
+
+-- numbers that are written alike are the same, and so are points, cells and pads
+same-number : (m n : ℕ) → Number m → Number n → decimal m ≡ decimal n → m ≡ n
+same-number m n h k e = same-from-decimal m n (omega arith) (omega arith) e
+
+same-point : (x y : ℕ × ℕ) → Point x → Point y → point-text x ≡ point-text y → x ≡ y
+same-point x y h k e =
+    let both = one-cut 32 (decimal (x .0)) (decimal (x .1)) (decimal (y .0)) (decimal (y .1)) (number-lacks (x .0) (h .0)) (number-lacks (y .0) (k .0)) e in
+    let p = same-number (x .0) (y .0) (h .0) (k .0) (both .0) in
+    let q = same-number (x .1) (y .1) (h .1) (k .1) (both .1) in
+    cc
+
+same-cell : (x y : ℕ × ℕ × ℕ) → Cell x → Cell y → cell-text x ≡ cell-text y → x ≡ y
+same-cell x y h k e =
+    let both = one-cut 32 (decimal (x .0)) (point-text (x .1, x .2)) (decimal (y .0)) (point-text (y .1, y .2)) (number-lacks (x .0) (h .0)) (number-lacks (y .0) (k .0)) e in
+    let p = same-number (x .0) (y .0) (h .0) (k .0) (both .0) in
+    let q = same-point (x .1, x .2) (y .1, y .2) (h .1, h .2) (k .1, k .2) (both .1) in
+    cc
+
+same-pad : (x y : List ℕ × ℕ × ℕ) → Pad-point x → Pad-point y → pad-text x ≡ pad-text y → x ≡ y
+same-pad x y h k e =
+    let both = one-cut 32 (x .0) (point-text (x .1, x .2)) (y .0) (point-text (y .1, y .2)) (name-lacks (x .0) (h .0)) (name-lacks (y .0) (k .0)) e in
+    let p = both .0 in
+    let q = same-point (x .1, x .2) (y .1, y .2) (h .1, h .2) (k .1, k .2) (both .1) in
+    cc
+
+same-rest : (v : Verb) (x y : Rest v) → Fits v x → Fits v y → text-of v x ≡ text-of v y → x ≡ y
+same-rest Field = same-point
+same-rest Escape = same-point
+same-rest Pad = same-pad
+same-rest Land = same-point
+same-rest Keep = same-cell
+same-rest Place = λ x y h k e. e
+same-rest Lift = λ x y h k e. e
+same-rest Bar = same-cell
+same-rest Clear = same-cell
+same-rest Show = λ x y h k e. e
+
+-- the line of a verb and what follows it
+abbrev made : (v : Verb) → Rest v → Form
+made Field = λ x. field (x .0) (x .1)
+made Escape = λ x. escape (x .0) (x .1)
+made Pad = λ x. pad (x .0) (x .1) (x .2)
+made Land = λ x. land (x .0) (x .1)
+made Keep = λ x. keep (x .0) (x .1) (x .2)
+made Place = λ x. place x
+made Lift = λ x. lift x
+made Bar = λ x. bar (x .0) (x .1) (x .2)
+made Clear = λ x. clear (x .0) (x .1) (x .2)
+made Show = λ x. show x
+
+made-parts : (f : Form) → made (verb-of f) (parts f) ≡ f
+made-parts (field r c) = refl
+made-parts (escape r c) = refl
+made-parts (pad n r c) = refl
+made-parts (land r c) = refl
+made-parts (keep l r c) = refl
+made-parts (place n) = refl
+made-parts (lift n) = refl
+made-parts (bar l r c) = refl
+made-parts (clear l r c) = refl
+made-parts (show n) = refl
+
+same-made : (v w : Verb) → v ≡ w → (x : Rest v) (y : Rest w) → Fits v x → Fits w y → text-of v x ≡ text-of w y → made v x ≡ made w y
+same-made v w e x =
+    let P : Verb → Type 0 = λ u. (y : Rest u) → Fits v x → Fits u y → text-of v x ≡ text-of u y → made v x ≡ made u y in
+    subst P e (λ y h k t. ap (made v) (same-rest v x y h k t))
+
+pub spellings-differ : Spellings-differ
+spellings-differ f g h k e =
+    let both = one-cut 32 (keyword (verb-of f)) (rest-of f) (keyword (verb-of g)) (rest-of g) (keyword-lacks (verb-of f)) (keyword-lacks (verb-of g)) (sym (spelled-is f) ∙ e ∙ spelled-is g) in
+    sym (made-parts f)
+    ∙ same-made (verb-of f) (verb-of g) (one-verb (verb-of f) (verb-of g) (both .0)) (parts f) (parts g) (fits f h) (fits g k) (sym (texts f) ∙ both .1 ∙ texts g)
+    ∙ made-parts g

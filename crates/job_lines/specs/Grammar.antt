@@ -1,4 +1,5 @@
 -- The grammar, as the writing of lines.
+use mathlib.Core.Path.{_≡_}
 use mathlib.Core.List.{List, [], _∷_, _++_}
 use Prim.Native.Nat.{ℕ}
 use lib.Chars.{codes}
@@ -74,3 +75,7 @@ form-of (line.Show n) = show (n .now)
 -- what the reader answers to the bytes of a line
 abbrev pub Reads-line : List ℕ → Option Line → Type 0
 Reads-line bytes r = Reads Well-formed spelled bytes (mapped form-of r)
+
+-- no two well-formed lines have the same spelling
+abbrev pub Spellings-differ : Type 0
+Spellings-differ = (f g : Form) → Well-formed f → Well-formed g → spelled f ≡ spelled g → f ≡ g

@@ -9,6 +9,7 @@ use lib.ListN.{length}
 use denote.Ref.{RefT}
 use Rattle.std.specs.declared.option.Option.{Option}
 use Rattle.std.specs.declared.option.Option.the-variants.{Some, None}
+use Rattle.std.specs.shelf.Lists.{All}
 use Rattle.job_lines.specs.Words.{Lacks}
 
 -- one byte more at the front of the first line
@@ -31,3 +32,13 @@ pub record First-line (text line rest : List ℕ) : Type 0 where
 abbrev pub Next : List ℕ → Option (RefT (List ℕ) × RefT (List ℕ)) → Type 0
 Next text (Some parts) = First-line text (parts .0 .now) (parts .1 .now)
 Next text None = text ≡ []
+
+-- lines written one after another, each with its LF
+abbrev pub ended : List (List ℕ) → List ℕ
+ended [] = []
+ended (line ∷ lines) = line ++ 10 ∷ ended lines
+
+-- they are the lines of that text, also where some bytes with no LF follow, which are the last line
+pub record Lines-come-back : Type 0 where
+  pub with-the-last : (lines : List (List ℕ)) → All (Lacks 10) lines → lines-of (ended lines) ≡ lines
+  pub without-it : (lines : List (List ℕ)) (last : List ℕ) → All (Lacks 10) lines → Lacks 10 last → 0 < length last → lines-of (ended lines ++ last) ≡ lines ++ last ∷ []

@@ -4,7 +4,7 @@ ghost use mathlib.Core.List.{List};
 ghost use denote.Ref.{RefT};
 ghost use Rattle.std.specs.Options.{mapped};
 ghost use Rattle.job_lines.specs.Words.{Name, Reads};
-ghost use Rattle.job_lines.specs.Grammar.{Reads-line};
+ghost use Rattle.job_lines.specs.Grammar.{Reads-line, Spellings-differ};
 ghost use Rattle.job_lines.specs.Rests.{Point, point-text, Cell, cell-text, Pad-point, pad-text, pad-of, Reads-rest};
 use crate::line::Line;
 use crate::verb::Verb;
@@ -20,6 +20,13 @@ pub fn read_line<'a>(bytes: &'a [u8]) -> Option<Line<'a>>
     let (word, rest) = cut(bytes, b' ')?;
     let verb = read_verb(word)?;
     read_rest(verb, rest)
+}
+
+// What a line says follows from its bytes.
+pub fn spellings_differ() -> u8
+    ensures { λ _. ⌜ Spellings-differ ⌝ }
+{
+    0
 }
 
 // What follows a verb.
