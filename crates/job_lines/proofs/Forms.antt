@@ -158,26 +158,34 @@ line-read bytes word rest v None h e k = λ f fit s.
 same-number : (m n : ℕ) → Number m → Number n → decimal m ≡ decimal n → m ≡ n
 same-number m n h k e = same-from-decimal m n (omega arith) (omega arith) e
 
+pair-same : {X Y : Type 0} (x y : X × Y) → x .0 ≡ y .0 → x .1 ≡ y .1 → x ≡ y
+pair-same {X} {Y} x y p q = ap (λ (a : X). (a, x .1)) p ∙ ap (λ (b : Y). (y .0, b)) q
+
+triple-same : {X Y Z : Type 0} (x y : X × Y × Z) → x .0 ≡ y .0 → (x .1 ≡ y .1) × (x .2 ≡ y .2) → x ≡ y
+triple-same {X} {Y} {Z} x y p q =
+    ap (λ (a : X). (a, x .1, x .2)) p ∙ ap (λ (b : Y). (y .0, b, x .2)) (q .0) ∙ ap (λ (c : Z). (y .0, y .1, c)) (q .1)
+
+same-numbers : (a b c d : ℕ) → Point (a, b) → Point (c, d) → point-text (a, b) ≡ point-text (c, d) → (a ≡ c) × (b ≡ d)
+same-numbers a b c d h k e =
+    let both = one-cut 32 (decimal a) (decimal b) (decimal c) (decimal d) (number-lacks a (h .0)) (number-lacks c (k .0)) e in
+    (same-number a c (h .0) (k .0) (both .0), same-number b d (h .1) (k .1) (both .1))
+
 same-point : (x y : ℕ × ℕ) → Point x → Point y → point-text x ≡ point-text y → x ≡ y
 same-point x y h k e =
-    let both = one-cut 32 (decimal (x .0)) (decimal (x .1)) (decimal (y .0)) (decimal (y .1)) (number-lacks (x .0) (h .0)) (number-lacks (y .0) (k .0)) e in
-    let p = same-number (x .0) (y .0) (h .0) (k .0) (both .0) in
-    let q = same-number (x .1) (y .1) (h .1) (k .1) (both .1) in
-    cc
+    let both = same-numbers (x .0) (x .1) (y .0) (y .1) h k e in
+    pair-same x y (both .0) (both .1)
 
 same-cell : (x y : ℕ × ℕ × ℕ) → Cell x → Cell y → cell-text x ≡ cell-text y → x ≡ y
 same-cell x y h k e =
     let both = one-cut 32 (decimal (x .0)) (point-text (x .1, x .2)) (decimal (y .0)) (point-text (y .1, y .2)) (number-lacks (x .0) (h .0)) (number-lacks (y .0) (k .0)) e in
-    let p = same-number (x .0) (y .0) (h .0) (k .0) (both .0) in
-    let q = same-point (x .1, x .2) (y .1, y .2) (h .1, h .2) (k .1, k .2) (both .1) in
-    cc
+    triple-same x y
+      (same-number (x .0) (y .0) (h .0) (k .0) (both .0))
+      (same-numbers (x .1) (x .2) (y .1) (y .2) (h .1, h .2) (k .1, k .2) (both .1))
 
 same-pad : (x y : List ℕ × ℕ × ℕ) → Pad-point x → Pad-point y → pad-text x ≡ pad-text y → x ≡ y
 same-pad x y h k e =
     let both = one-cut 32 (x .0) (point-text (x .1, x .2)) (y .0) (point-text (y .1, y .2)) (name-lacks (x .0) (h .0)) (name-lacks (y .0) (k .0)) e in
-    let p = both .0 in
-    let q = same-point (x .1, x .2) (y .1, y .2) (h .1, h .2) (k .1, k .2) (both .1) in
-    cc
+    triple-same x y (both .0) (same-numbers (x .1) (x .2) (y .1) (y .2) (h .1, h .2) (k .1, k .2) (both .1))
 
 same-rest : (v : Verb) (x y : Rest v) → Fits v x → Fits v y → text-of v x ≡ text-of v y → x ≡ y
 same-rest Field = same-point
