@@ -10,3 +10,4 @@ pub mod Freeing
 pub mod Linking
 pub mod Relaying
 pub mod Accepted
+pub mod Sweeping

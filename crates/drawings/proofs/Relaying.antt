@@ -1,14 +1,13 @@
 -- A net taken up and laid again.
 use mathlib.Core.Path.{_≡_, refl, sym, ap, subst, _∙_}
-use mathlib.Core.Bool.{Bool, true, false}
+use mathlib.Core.Bool.{true}
 use mathlib.Core.List.{List, [], _∷_}
-use mathlib.Core.Logic.{_⊎_, inl, inr}
 use Prim.Native.Nat.{ℕ, _<_}
 use lib.ListN.{length, set}
 use Rattle.std.specs.declared.option.Option.{Option}
 use Rattle.std.specs.declared.option.Option.the-variants.{Some, None}
 use Rattle.std.proofs.shelf.Lists.{getD-set-same, length-set, ext-getD}
-use Rattle.std.proofs.shelf.Tests.{false≢true, cases-eq}
+use Rattle.std.proofs.shelf.Tests.{false≢true}
 use Rattle.boards.specs.Meaning.{Meaning}
 use Rattle.linkages.specs.Lists.{Mem, here, there}
 use Rattle.linkages.proofs.Members.{mem-none, dec-mem}
@@ -20,7 +19,7 @@ use Rattle.drawings.specs.Changes.{freed, head-of, laid, laid-after}
 use Rattle.drawings.specs.Lawful.{Local, Lawful}
 use Rattle.drawings.proofs.Said.{last-net, after-net, net-inside}
 use Rattle.drawings.proofs.Changed.{set-other, freed-long, freed-outside}
-use Rattle.drawings.proofs.Follow.{run-net, run-first, net-runs}
+use Rattle.drawings.proofs.Follow.{net-runs}
 
 record-is : (r : Record) → is-net r ≡ true → r ≡ Net (before-of r) (after-of r)
 record-is Free e = absurd (false≢true e)

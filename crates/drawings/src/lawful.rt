@@ -3,13 +3,13 @@
 // The rules about a cell and the cells that it names are looked at cell by cell. Then the net cells are counted, and once
 // more by following every net from its first cell: the counts are equal exactly if every net cell is reached.
 ghost use mathlib.Core.Path.{_≡_};
-ghost use mathlib.Core.Bool.{true, false};
-ghost use Prim.Native.Nat.{ℕ, _<_, _≤_};
+ghost use mathlib.Core.Bool.{true};
+ghost use Prim.Native.Nat.{ℕ, _<_};
 ghost use lib.ListN.{length};
 ghost use Rattle.std.specs.Orderings.{Decides};
 ghost use Rattle.std.specs.shelf.Lists.{joined};
 ghost use Rattle.std.specs.declared.option.Option.the-variants.{Some};
-ghost use Rattle.boards.specs.Meaning.{outlets-of, pad-at, landing-at};
+ghost use Rattle.boards.specs.Meaning.{outlets-of};
 ghost use Rattle.linkages.specs.Lists.{Mem};
 ghost use Rattle.drawings.specs.Nets.{before-at, after-at, net-at, cells-where, wired, net};
 ghost use Rattle.drawings.specs.Lawful.{Local, Begins, Goes-on, Lawful};

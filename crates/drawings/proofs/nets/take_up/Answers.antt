@@ -1,4 +1,4 @@
-use mathlib.Core.Path.{_≡_, refl, ap, _∙_}
+use mathlib.Core.Path.{refl, ap, _∙_}
 use Rattle.drawings.specs.Nets.{net}
 use Rattle.drawings.specs.Changes.{laid}
 use Rattle.drawings.proofs.Follow.{net-runs}

@@ -1,0 +1,5 @@
+pub mod Words
+pub mod Lines
+pub mod Verbs
+pub mod Grammar
+pub mod Rests
