@@ -3,9 +3,9 @@ use mathlib.Core.Path.{_≡_, refl, sym, ap, _∙_}
 use mathlib.Core.Logic.{⊎-elim}
 use mathlib.Core.Bool.{Bool, true, false, not, cond, _&&_}
 use mathlib.Core.List.{List, [], _∷_, map}
-use Prim.Native.Nat.{ℕ, _+_, _≤_, _<_}
+use Prim.Native.Nat.{ℕ, _≤_, _<_}
 use native.Mathlib.Omega.{arith}
-use lib.ListN.{length, getD, take, length-map}
+use lib.ListN.{length, getD, length-map}
 use Rattle.std.specs.Iters.{counting}
 use Rattle.std.specs.shelf.Lists.{kept-by}
 use Rattle.std.specs.declared.option.Option.{Option}
@@ -16,10 +16,10 @@ use Rattle.boards.specs.declared.place.Place.{Place}
 use Rattle.boards.specs.Meaning.{Meaning, Bounded, at, when, outlet-at, outlets-of, pad-at, landing-at}
 use Rattle.boards.specs.Places.{Placed}
 use Rattle.boards.specs.Maps.{somes}
-use Rattle.boards.specs.KeepOuts.{keep-out}
-use Rattle.boards.proofs.Lists.{when-some, at-in, at-some, at-none, at-past}
+use Rattle.boards.specs.KeepOuts.{keep-out, if-open}
+use Rattle.boards.proofs.Lists.{when-some, at-in, at-past}
 use Rattle.boards.proofs.Meanings.{made-in, made-out, made-outlet, bounded-of}
-use Rattle.boards.proofs.Somes.{length-somes, somes-from, somes-more, somes-same, somes-past, at-somes, kept-somes}
+use Rattle.boards.proofs.Somes.{length-somes, somes-from, kept-somes}
 
 module _ (closed : ℕ → Bool) (m : Meaning) where
   abbrev pub open-outlets : ℕ → List ℕ
@@ -87,28 +87,16 @@ module _ (closed : ℕ → Bool) (m : Meaning) where
     pub outlet-open : (j : ℕ) → closed c ≡ false → outlet-at (keep-out closed m) c j ≡ at (somes (outlets-if-open c)) j
     outlet-open j t = ap (λ xs. at xs j) (kept-outlets ∙ cond-false _ _ _ t ∙ kept-somes (λ d. not (closed d)) (outlets-of m c))
 
-  -- the i-th outlet below, by whether it is open
-  module _ (c i : ℕ) where
-    if-open-at : (d : ℕ) → outlet-at m c i ≡ Some d → (i < length (outlets-if-open c)) × (getD (outlets-if-open c) i None ≡ when (not (closed d)) d)
-    if-open-at d e =
-        let s = at-some (outlets-of m c) i d e in
-        (simp length-map (s .0), getD-map (λ d. when (not (closed d)) d) (outlets-of m c) i 0 None (s .0) ∙ ap (λ d. when (not (closed d)) d) (s .1))
-
-    pub open-more : (d : ℕ) → outlet-at m c i ≡ Some d → closed d ≡ false →
-        length (somes (take (i + 1) (outlets-if-open c))) ≡ length (somes (take i (outlets-if-open c))) + 1
-    open-more d e t = let h = if-open-at d e in somes-more (outlets-if-open c) i (h .0) d (h .1 ∙ ap (λ b. when (not b) d) t)
-
-    pub closed-more : (d : ℕ) → outlet-at m c i ≡ Some d → closed d ≡ true →
-        length (somes (take (i + 1) (outlets-if-open c))) ≡ length (somes (take i (outlets-if-open c)))
-    closed-more d e t = let h = if-open-at d e in somes-same (outlets-if-open c) i (h .0) (h .1 ∙ ap (λ b. when (not b) d) t)
-
-    pub none-more : outlet-at m c i ≡ None → length (somes (take (i + 1) (outlets-if-open c))) ≡ length (somes (take i (outlets-if-open c)))
-    none-more e =
-        somes-past (outlets-if-open c) i (simp length-map (at-none (outlets-of m c) i (λ d f. let z : _≡_ {A = ℕ} 0 1 = cc in omega arith)))
-
-    pub open-at : (d j : ℕ) → outlet-at m c i ≡ Some d → closed d ≡ false → length (somes (take i (outlets-if-open c))) ≡ j →
-        at (somes (outlets-if-open c)) j ≡ Some d
-    open-at d j e t k = let h = if-open-at d e in at-somes (outlets-if-open c) i j d (h .0) (h .1 ∙ ap (λ b. when (not b) d) t) k
+  -- the i-th of them is the i-th outlet below, if it is open
+  pub if-open-at : (c i : ℕ) → getD (outlets-if-open c) i None ≡ if-open closed (outlet-at m c i)
+  if-open-at c i = ⊎-elim
+      (λ h.
+      getD-map (λ d. when (not (closed d)) d) (outlets-of m c) i 0 None h
+      ∙ ap (if-open closed) (sym (at-in (outlets-of m c) i h)))
+      (λ h.
+      getD-past (outlets-if-open c) i None (simp length-map h)
+      ∙ ap (if-open closed) (sym (at-past (outlets-of m c) i h)))
+      (cases-lt i (length (outlets-of m c)))
 
   -- pads and landings are those below that are not closed
   module _ (marks : List Bool) (n : ℕ) (each : length marks ≡ n) where

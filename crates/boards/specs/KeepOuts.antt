@@ -7,16 +7,23 @@ use lib.ListN.{length, getD}
 use lib.Dec.{eqb}
 use Rattle.std.specs.Iters.{counting}
 use Rattle.std.specs.shelf.Lists.{kept-by, countBy}
+use Rattle.std.specs.declared.option.Option.{Option}
+use Rattle.std.specs.declared.option.Option.the-variants.{Some, None}
 use Rattle.std.specs.declared.result.Result.{Result}
 use Rattle.std.specs.declared.result.Result.the-variants.{Ok, Err}
 use Rattle.boards.specs.declared.refusal.BoardRefusal.{BoardRefusal}
-use Rattle.boards.specs.Meaning.{Meaning, board-of, outlets-of, pad-at, landing-at}
+use Rattle.boards.specs.Meaning.{Meaning, when, board-of, outlets-of, pad-at, landing-at}
 
 -- a closed cell has no outlets, is left out of all outlet lists, and is neither pad nor landing; all else stays, in its order
 abbrev pub keep-out : (closed : ℕ → Bool) → Meaning → Meaning
 keep-out closed m =
     board-of (m .cells) (λ c. cond (closed c) [] (kept-by (λ d. not (closed d)) (outlets-of m c)))
     (λ c. not (closed c) && pad-at m c) (λ c. not (closed c) && landing-at m c)
+
+-- an outlet, if it is open
+abbrev pub if-open : (closed : ℕ → Bool) → Option ℕ → Option ℕ
+if-open closed (Some d) = when (not (closed d)) d
+if-open closed None = None
 
 -- the mask has one bit for each number below 4,096, 64 to a word: whether the bit of c is set
 abbrev pub is-closed : (mask : List ℕ) → ℕ → Bool

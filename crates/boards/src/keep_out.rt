@@ -1,11 +1,12 @@
 // A keep-out: any board with some of its cells closed.
 ghost use mathlib.Core.Path.{_≡_};
 ghost use mathlib.Core.Bool.{false};
-ghost use Prim.Native.Nat.{ℕ};
-ghost use lib.ListN.{length};
+ghost use Prim.Native.Nat.{ℕ, _<_};
+ghost use lib.ListN.{length, replicate};
+ghost use Rattle.boards.specs.Meaning.{outlet-at};
 ghost use Rattle.boards.specs.Numbers.{number-of};
 ghost use Rattle.boards.specs.Refusals.{Answer};
-ghost use Rattle.boards.specs.KeepOuts.{keep-out, is-closed, closed-count, Close-fault, Closes};
+ghost use Rattle.boards.specs.KeepOuts.{keep-out, is-closed, if-open, closed-count, Close-fault, Closes};
 use crate::board::Board;
 use crate::place::Place;
 use crate::place::PlacedBoard;
@@ -27,7 +28,7 @@ impl<B: Board> KeepOut<B> {
     {
         KeepOut {
             board,
-            mask: [0; 64],
+            mask: no_bits(),
         }
     }
 
@@ -37,10 +38,18 @@ impl<B: Board> KeepOut<B> {
         ensures closes { λ r. ⌜ Closes cell (now (self .entry) .mask) (now (self .exit) .mask) r ⌝ }
         ensures same_board { λ _. ⌜ now (self .exit) .board ≡ now (self .entry) .board ⌝ }
     {
+        self.require(cell)?;
+        self.mask[(cell / 64) as usize] |= 1 << (cell % 64);
+        Ok(())
+    }
+
+    // Refuses a number that is no cell.
+    fn require(&self, cell: u16) -> Result<(), BoardRefusal>
+        ensures { λ r. ⌜ Answer number-of (Close-fault (meaning (now (self .entry) .board)) cell) (λ _. cell < meaning (now (self .entry) .board) .cells) r ⌝ }
+    {
         if cell >= self.board.cells() {
             return Err(BoardRefusal::OffBoard);
         }
-        self.mask[(cell / 64) as usize] |= 1 << (cell % 64);
         Ok(())
     }
 
@@ -61,6 +70,23 @@ impl<B: Board> KeepOut<B> {
     {
         cell < 4096 && (self.mask[(cell / 64) as usize] >> (cell % 64)) & 1 == 1
     }
+
+    // The i-th outlet below, if it is open.
+    fn open_outlet(&self, cell: u16, i: u8) -> Option<u16>
+        ensures { λ r. ⌜ r ≡ if-open (is-closed (now (self .entry) .mask)) (outlet-at (meaning (now (self .entry) .board)) cell i) ⌝ }
+    {
+        match self.board.outlet(cell, i) {
+            Some(next) if !self.is_closed(next) => Some(next),
+            _ => None,
+        }
+    }
+}
+
+// A mask that closes nothing.
+fn no_bits() -> [u64; 64]
+    ensures { λ r. ⌜ r ≡ replicate 64 0 ⌝ }
+{
+    [0; 64]
 }
 
 pub impl<B: Board> Board for KeepOut<B> as KeepOutBoard {
@@ -76,13 +102,11 @@ pub impl<B: Board> Board for KeepOut<B> as KeepOutBoard {
         }
         let mut left = j;
         for i in 0..8 {
-            if let Some(next) = self.board.outlet(cell, i) {
-                if !self.is_closed(next) {
-                    if left == 0 {
-                        return Some(next);
-                    }
-                    left -= 1;
+            if let Some(next) = self.open_outlet(cell, i) {
+                if left == 0 {
+                    return Some(next);
                 }
+                left -= 1;
             }
         }
         None

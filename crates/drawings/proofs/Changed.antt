@@ -1,20 +1,17 @@
 -- Records after cells are freed or laid.
 use mathlib.Core.Path.{_≡_, refl, sym, ap, subst, _∙_}
-use mathlib.Core.Bool.{Bool, true, false}
 use mathlib.Core.List.{List, [], _∷_}
-use mathlib.Core.Logic.{_≢_, ⊎-elim}
+use mathlib.Core.Logic.{⊎-elim}
 use Prim.Native.Nat.{ℕ, _≤_, _<_}
-use native.Mathlib.Omega.{arith}
 use lib.ListN.{length, getD, set, drop}
-use Rattle.std.specs.declared.option.Option.{Option}
 use Rattle.std.specs.declared.option.Option.the-variants.{Some, None}
-use Rattle.std.proofs.shelf.Lists.{getD-past, set-past, getD-set-same, getD-set-other, length-set, drop-more, drop-all}
+use Rattle.std.proofs.shelf.Lists.{getD-past, getD-set-same, getD-set-other, length-set, drop-more, drop-all}
 use Rattle.std.proofs.shelf.Tests.{cases-lt, cases-eq}
 use Rattle.linkages.specs.Lists.{Mem, here, there, Distinct}
 use Rattle.drawings.specs.declared.records.Record.{Record}
-use Rattle.drawings.specs.declared.records.Record.the-variants.{Free, Barred, Net}
+use Rattle.drawings.specs.declared.records.Record.the-variants.{Free}
 use Rattle.drawings.specs.Records.{after-of, is-last, record-at}
-use Rattle.drawings.specs.Nets.{after-at, last-at, net, last-of, Runs, ends, goes}
+use Rattle.drawings.specs.Nets.{after-at, net, last-of, Runs, ends, goes}
 use Rattle.drawings.specs.Changes.{freed, head-of}
 use Rattle.linkages.proofs.Members.{mem-none, mem-at}
 use Rattle.drawings.proofs.Follow.{run-distinct, net-run, net-here, run-step}

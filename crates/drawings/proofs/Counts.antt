@@ -1,18 +1,18 @@
 -- Net cells counted twice: all of them, and those met by following the nets.
-use mathlib.Core.Path.{_≡_, refl, sym, ap, subst, _∙_}
+use mathlib.Core.Path.{_≡_, sym, ap, _∙_}
 use mathlib.Core.Bool.{Bool, true, false, cond}
 use mathlib.Core.List.{List, [], _∷_, _++_}
-use Prim.Native.Nat.{ℕ, suc, _+_, _≤_, _<_}
+use Prim.Native.Nat.{ℕ, _+_, _≤_}
 use native.Mathlib.Omega.{arith}
 use lib.ListN.{length}
 use Rattle.std.specs.Iters.{counting}
 use Rattle.std.specs.shelf.Lists.{kept-by, joined}
 use Rattle.std.proofs.shelf.Lists.{length-append, joined-more, append-nil}
 use Rattle.boards.specs.Meaning.{Meaning}
-use Rattle.linkages.specs.Lists.{Mem, here, there, Distinct, Within}
+use Rattle.linkages.specs.Lists.{Mem, Distinct, Within}
 use Rattle.drawings.specs.declared.records.Record.{Record}
 use Rattle.drawings.specs.Nets.{net-at, first-at, cells-where, wired, net}
-use Rattle.drawings.specs.Lawful.{Local, Reached, Lawful}
+use Rattle.drawings.specs.Lawful.{Local, Reached}
 use Rattle.linkages.proofs.Pigeons.{within-length}
 use Rattle.drawings.proofs.Members.{within-back, joined-cases, mem-joined, distinct-joined}
 use Rattle.drawings.proofs.Cells.{kept-below, below-kept, distinct-kept-below, kept-below-more, length-below}

@@ -1,23 +1,22 @@
 -- Following a net.
 use mathlib.Core.Path.{_≡_, refl, sym, ap, subst, _∙_}
-use mathlib.Core.Bool.{Bool, true, false}
+use mathlib.Core.Bool.{true}
 use mathlib.Core.List.{List, [], _∷_}
-use mathlib.Core.Logic.{_⊎_, inl, inr, ⊎-elim}
 use Prim.Native.Nat.{ℕ, zero, suc, _+_, _≤_, _<_}
 use native.Mathlib.Omega.{arith}
-use lib.ListN.{length, getD}
+use lib.ListN.{length}
 use Rattle.std.specs.declared.option.Option.{Option}
 use Rattle.std.specs.declared.option.Option.the-variants.{Some, None}
 use Rattle.std.proofs.shelf.Tests.{both-ways}
 use Rattle.boards.specs.Meaning.{Meaning}
-use Rattle.linkages.specs.Lists.{Mem, here, there, Distinct, Within}
+use Rattle.linkages.specs.Lists.{Mem, here, there, Distinct}
 use Rattle.drawings.specs.declared.records.Record.{Record}
-use Rattle.drawings.specs.Records.{before-of, after-of, is-net, is-first, is-last, is-barred, record-at}
-use Rattle.drawings.specs.Nets.{before-at, after-at, net-at, first-at, last-at, onward, net, Runs, ends, goes}
+use Rattle.drawings.specs.Records.{record-at}
+use Rattle.drawings.specs.Nets.{before-at, after-at, net-at, first-at, onward, net, Runs, ends, goes}
 use Rattle.drawings.specs.Lawful.{Local, Reached, first, next}
 use Rattle.linkages.proofs.Members.{mem-none, mem-at}
 use Rattle.drawings.proofs.Cells.{length-below}
-use Rattle.drawings.proofs.Said.{none-not-some, some-same, before-net, after-net, first-net, last-net, net-last, net-inside}
+use Rattle.drawings.proofs.Said.{none-not-some, some-same, before-net, after-net, first-net, last-net, net-last, net-first, net-inside}
 
 -- ---- a run, of any drawing
 
@@ -180,3 +179,28 @@ module _ (m : Meaning) (d : List Record) (L : (c : ℕ) → Local m d c) where
   pub reached-net : {c : ℕ} → Reached d c → (f : ℕ) × (first-at d f ≡ true) × Mem c (net d f)
   reached-net (first {c = c} p) = (c, p, run-first (net-runs c p))
   reached-net (next r q) = let h = reached-net r in (h .0, h .1, run-next (net-runs (h .0) (h .1)) (h .2) q)
+
+  -- what leads to a reached cell is reached
+  pub reached-before : {t : ℕ} (s : ℕ) → Reached d t → after-at d s ≡ Some t → Reached d s
+  reached-before s (first {c = t} p) q = absurd (not-first s t q p)
+  reached-before s (next {s = u} {c = t} r e) q =
+      subst (Reached d) (some-same (L u .after-names-back t e) (L s .after-names-back t q)) r
+
+  -- going back from a run comes to a first cell
+  run-up : {c : ℕ} {xs : List ℕ} (k : ℕ) → Runs d c xs → length d < k + length xs →
+      (f : ℕ) × (ys : List ℕ) × (first-at d f ≡ true) × Runs d f ys × ((x : ℕ) → Mem x xs → Mem x ys)
+  run-up zero r h = let z : ⊥ = omega (arith, run-short r) in absurd z
+  run-up {c} {xs} (suc k) r h = go (before-at d c) refl (λ s e. run-up k (goes (L c .before-names-on s e) r) (omega arith))
+    where
+      go : (o : Option ℕ) → before-at d c ≡ o →
+          ((s : ℕ) → before-at d c ≡ Some s →
+          (f : ℕ) × (ys : List ℕ) × (first-at d f ≡ true) × Runs d f ys × ((x : ℕ) → Mem x (s ∷ xs) → Mem x ys)) →
+          (f : ℕ) × (ys : List ℕ) × (first-at d f ≡ true) × Runs d f ys × ((x : ℕ) → Mem x xs → Mem x ys)
+      go None e rec = (c, xs, net-first (record-at d c) (run-net r (run-first r)) e, r, λ x i. i)
+      go (Some s) e rec = let h = rec s e in (h .0, h .1, h .2, h .3, λ x i. h .4 x (there i))
+
+  -- so a cell from which a net comes to an end is reached; a ring has no end
+  pub run-reached : {c : ℕ} {xs : List ℕ} → Runs d c xs → Reached d c
+  run-reached {c} r =
+      let h = run-up (suc (length d)) r (omega arith) in
+      net-reached (h .0) c (h .2) (subst (Mem c) (sym (net-run (h .3))) (h .4 c (run-first r)))

@@ -1,29 +1,26 @@
 -- What stays lawful when cells are freed.
-use mathlib.Core.Path.{_≡_, refl, sym, ap, subst, _∙_}
+use mathlib.Core.Path.{_≡_, refl, sym, ap, _∙_}
 use mathlib.Core.Bool.{Bool, true, false, not, _&&_}
 use mathlib.Core.List.{List, [], _∷_}
 use mathlib.Core.Logic.{_⊎_, inl, inr, ⊎-elim}
-use Prim.Native.Nat.{ℕ, _≤_, _<_}
-use native.Mathlib.Omega.{arith}
+use Prim.Native.Nat.{ℕ}
 use lib.Dec.{eqb}
-use lib.ListN.{length, getD, set}
+use lib.ListN.{length}
 use Rattle.std.specs.Iters.{counting}
 use Rattle.std.specs.shelf.Lists.{kept-by}
-use Rattle.std.specs.declared.option.Option.{Option}
-use Rattle.std.specs.declared.option.Option.the-variants.{Some, None}
+use Rattle.std.specs.declared.option.Option.the-variants.{Some}
 use Rattle.std.proofs.shelf.Tests.{both-ways, false≢true, eq-eqb, ne-eqb, cases-eq, cases-bool, and-right, and-left}
 use Rattle.boards.specs.Meaning.{Meaning, landing-at}
 use Rattle.linkages.specs.Lists.{Mem, here, there}
 use Rattle.drawings.specs.declared.records.Record.{Record}
-use Rattle.drawings.specs.declared.records.Record.the-variants.{Free, Barred, Net}
 use Rattle.drawings.specs.Records.{before-of, after-of, is-net, is-first, is-last, is-barred, record-at}
-use Rattle.drawings.specs.Nets.{before-at, after-at, net-at, first-at, last-at, barred-at, cells-where, wired, bars, used, net, last-of, without, Runs, ends, goes}
+use Rattle.drawings.specs.Nets.{after-at, net-at, first-at, last-at, barred-at, cells-where, wired, bars, used, net, last-of, without, Runs, ends, goes}
 use Rattle.drawings.specs.Lawful.{Local, Reached, first, next, Lawful}
 use Rattle.drawings.specs.Changes.{freed}
 use Rattle.drawings.specs.Outcomes.{Frees}
 use Rattle.linkages.proofs.Members.{mem-none, mem-one, mem-at, dec-mem}
 use Rattle.drawings.proofs.Members.{same-kept, kept-twice}
-use Rattle.drawings.proofs.Said.{none-not-some, some-same, before-net, after-net, first-net, last-net, net-unbarred}
+use Rattle.drawings.proofs.Said.{some-same, before-net, after-net, first-net, net-unbarred}
 use Rattle.drawings.proofs.Locals.{local-free}
 use Rattle.drawings.proofs.Changed.{freed-long, freed-inside, freed-outside, run-kept}
 use Rattle.drawings.proofs.Cells.{kept-below}
@@ -189,6 +186,14 @@ module _ (m : Meaning) (d e : List Record) (c : ℕ) (W : Lawful m d) (b : barre
       go : (k : ℕ) → Dec (Mem k (c ∷ [])) → first-at e k ≡ first-at d k
       go k (yes i) = ap is-first (F .inside k i) ∙ sym (⊎-elim (λ h. absurd (off-net i (first-net (record-at d k) h))) (λ h. h) (cases-bool (first-at d k)))
       go k (no n) = ap is-first (F .outside k n)
+
+  pub clear-used : used m e ≡ used m d
+  clear-used = cells-same d e (λ k. net-at e k && landing-at m k) (λ k. net-at d k && landing-at m k) (F .long)
+      (λ k. ap (λ b. b && landing-at m k) (go k (dec-mem k (c ∷ []))))
+    where
+      go : (k : ℕ) → Dec (Mem k (c ∷ [])) → net-at e k ≡ net-at d k
+      go k (yes i) = ap is-net (F .inside k i) ∙ sym (⊎-elim (λ h. absurd (off-net i h)) (λ h. h) (cases-bool (net-at d k)))
+      go k (no n) = ap is-net (F .outside k n)
 
   pub clear-bars : bars e ≡ without c (bars d)
   clear-bars = cells-without d e (barred-at e) (barred-at d) c (F .long) (λ k. go k (cases-eq k c))

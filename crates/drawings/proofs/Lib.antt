@@ -8,3 +8,6 @@ pub mod Locals
 pub mod Changed
 pub mod Freeing
 pub mod Linking
+pub mod Relaying
+pub mod Accepted
+pub mod Sweeping

@@ -1,17 +1,17 @@
 -- A lawful drawing's nets as disjoint paths.
 use mathlib.Core.Path.{_≡_, refl, sym, ap, subst, _∙_}
-use mathlib.Core.Bool.{Bool, true, false}
+use mathlib.Core.Bool.{true}
 use mathlib.Core.List.{List, [], _∷_, map}
 use Prim.Native.Nat.{ℕ}
 use lib.ListN.{length}
-use Rattle.std.specs.declared.option.Option.the-variants.{Some, None}
+use Rattle.std.specs.declared.option.Option.the-variants.{Some}
 use Rattle.std.proofs.shelf.Tests.{both-ways}
 use Rattle.boards.specs.Meaning.{Meaning}
-use Rattle.linkages.specs.Lists.{Mem, here, there, Distinct, Disjoint, Next, begins, goes-on}
+use Rattle.linkages.specs.Lists.{Mem, here, there, Next, begins, goes-on}
 use Rattle.linkages.specs.Paths.{Landing, Unbarred, Walk, stop, step, Path}
-use Rattle.linkages.specs.Nets.{first-of, pads-of, Wiring}
+use Rattle.linkages.specs.Nets.{first-of}
 use Rattle.drawings.specs.declared.records.Record.{Record}
-use Rattle.drawings.specs.Records.{is-net, record-at}
+use Rattle.drawings.specs.Records.{record-at}
 use Rattle.drawings.specs.Nets.{after-at, net-at, first-at, last-at, barred-at, wired, bars, net, nets, last-of, Runs, ends, goes}
 use Rattle.drawings.specs.Lawful.{Lawful}
 use Rattle.drawings.specs.Links.{Linked}
@@ -19,7 +19,7 @@ use Rattle.linkages.proofs.Members.{mem-none, mem-map, mem-of-map}
 use Rattle.linkages.proofs.Pigeons.{disjoint-paths}
 use Rattle.drawings.proofs.Cells.{kept-below, below-kept, distinct-kept-below}
 use Rattle.drawings.proofs.Said.{none-not-some, some-same, first-net, last-net, after-net, net-unbarred, net-inside}
-use Rattle.drawings.proofs.Follow.{run-first, run-net, run-distinct, net-runs, nets-apart, reached-net}
+use Rattle.drawings.proofs.Follow.{run-net, run-distinct, net-runs, nets-apart, reached-net}
 use Rattle.drawings.proofs.Freeing.{run-last-at}
 
 -- ---- lists made from lists

@@ -1,15 +1,15 @@
 -- The local rules at a number that is no cell.
-use mathlib.Core.Path.{_≡_, refl, sym, ap, subst, _∙_}
+use mathlib.Core.Path.{_≡_, sym, ap, _∙_}
 use mathlib.Core.Logic.{⊎-elim}
 use mathlib.Core.List.{List}
-use Prim.Native.Nat.{ℕ, _≤_, _<_}
+use Prim.Native.Nat.{ℕ, _<_}
 use lib.ListN.{length}
 use Rattle.std.proofs.shelf.Lists.{getD-past}
 use Rattle.std.proofs.shelf.Tests.{cases-lt, false≢true}
 use Rattle.boards.specs.Meaning.{Meaning}
 use Rattle.drawings.specs.declared.records.Record.{Record}
-use Rattle.drawings.specs.declared.records.Record.the-variants.{Free, Barred}
-use Rattle.drawings.specs.Records.{before-of, after-of, is-net, is-first, is-last, is-barred, record-at}
+use Rattle.drawings.specs.declared.records.Record.the-variants.{Free}
+use Rattle.drawings.specs.Records.{before-of, after-of, is-net, is-first, is-last, record-at}
 use Rattle.drawings.specs.Lawful.{Local}
 use Rattle.drawings.proofs.Said.{none-not-some}
 

@@ -1,5 +1,5 @@
 -- Lists joined, and what filters keep.
-use mathlib.Core.Path.{_≡_, refl, sym, ap, subst, _∙_}
+use mathlib.Core.Path.{_≡_, refl, ap, subst, _∙_}
 use mathlib.Core.Bool.{Bool, true, false, cond, _&&_}
 use mathlib.Core.List.{List, [], _∷_, _++_}
 use mathlib.Core.Logic.{_⊎_, inl, inr}
@@ -40,7 +40,7 @@ kept-twice p q (x ∷ xs) = go (q x) (kept-twice p q xs)
     go true rec = ap (λ zs. cond (p x) (x ∷ zs) zs) rec
     go false rec = rec
 
--- and if they are as many, they are all of it
+-- different cells within a list, as many as it has, are all of it
 pub within-back : (xs ys : List ℕ) → Distinct xs → Within xs ys → length ys ≤ length xs → Within ys xs
 within-back xs ys d w le c m = go (dec-mem c xs)
   where

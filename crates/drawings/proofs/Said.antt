@@ -1,19 +1,19 @@
 -- What one answer of a record says of the others.
-use mathlib.Core.Path.{_≡_, refl, sym, ap, subst, _∙_}
-use mathlib.Core.Bool.{Bool, true, false}
+use mathlib.Core.Path.{_≡_, refl, sym, ap, _∙_}
+use mathlib.Core.Bool.{true, false}
 use mathlib.Core.List.{List}
-use mathlib.Core.Logic.{_⊎_, inl, inr, ⊎-elim}
-use Prim.Native.Nat.{ℕ, _≤_, _<_}
+use mathlib.Core.Logic.{⊎-elim}
+use Prim.Native.Nat.{ℕ, _<_}
 use native.Mathlib.Omega.{arith}
-use lib.ListN.{length, getD}
+use lib.ListN.{length}
 use Rattle.std.specs.declared.option.Option.{Option}
 use Rattle.std.specs.declared.option.Option.the-variants.{Some, None}
 use Rattle.std.proofs.shelf.Lists.{getD-past}
 use Rattle.std.proofs.shelf.Tests.{cases-lt, false≢true}
 use Rattle.drawings.specs.declared.records.Record.{Record}
 use Rattle.drawings.specs.declared.records.Record.the-variants.{Free, Barred, Net}
-use Rattle.drawings.specs.Records.{before-of, after-of, is-net, is-first, is-last, is-barred, record-at}
-use Rattle.drawings.specs.Nets.{net-at, first-at}
+use Rattle.drawings.specs.Records.{before-of, after-of, is-net, is-first, is-last, is-barred}
+use Rattle.drawings.specs.Nets.{net-at}
 
 pub none-not-some : {x : ℕ} → None ≡ Some x → ⊥
 none-not-some e = let z : _≡_ {A = ℕ} 0 1 = cc in omega arith
@@ -50,10 +50,11 @@ net-last Barred e f = absurd (false≢true e)
 net-last (Net b None) e f = refl
 net-last (Net b (Some t)) e f = absurd (none-not-some (sym f))
 
-pub barred-off : (r : Record) → is-barred r ≡ true → is-net r ≡ false
-barred-off Free e = refl
-barred-off Barred e = refl
-barred-off (Net b a) e = absurd (false≢true e)
+pub net-first : (r : Record) → is-net r ≡ true → before-of r ≡ None → is-first r ≡ true
+net-first Free e f = absurd (false≢true e)
+net-first Barred e f = absurd (false≢true e)
+net-first (Net None a) e f = refl
+net-first (Net (Some s) a) e f = absurd (none-not-some (sym f))
 
 pub net-unbarred : (r : Record) → is-net r ≡ true → is-barred r ≡ false
 net-unbarred Free e = refl

@@ -26,11 +26,13 @@ pub record Made (m : Meaning) (e : List Record) (answer : ℕ) : Type 0 where
   pub lawful : Lawful m e
   pub none-wired : wired e ≡ []
   pub none-barred : bars e ≡ []
+  pub none-used : used m e ≡ []
 
 -- the net of the pad is free, and no other cell is changed; the answer is the landing set free
 pub record Lifted (m : Meaning) (d e : List Record) (c answer : ℕ) : Type 0 where
   pub frees : Frees (net d c) d e
-  pub landing : answer ≡ last-of c (net d c)
+  pub last : answer ≡ last-of c (net d c)
+  pub landing : landing-at m answer ≡ true
   pub lawful : Lawful m e
   pub one-less : wired e ≡ without c (wired d)
   pub same-bars : bars e ≡ bars d
@@ -44,6 +46,7 @@ pub record Cleared (m : Meaning) (d e : List Record) (c answer : ℕ) : Type 0 w
   pub lawful : Lawful m e
   pub one-less : bars e ≡ without c (bars d)
   pub same-wired : wired e ≡ wired d
+  pub same-used : used m e ≡ used m d
   pub same-nets : (w : ℕ) → Mem w (wired d) → net e w ≡ net d w
 
 -- the net's cells, from the pad on, stand at the front of report memory, and its rest is as before; the answer is how many they are

@@ -3,16 +3,17 @@
 // The rules about a cell and the cells that it names are looked at cell by cell. Then the net cells are counted, and once
 // more by following every net from its first cell: the counts are equal exactly if every net cell is reached.
 ghost use mathlib.Core.Path.{_≡_};
-ghost use mathlib.Core.Bool.{true, false};
-ghost use Prim.Native.Nat.{ℕ, _<_, _≤_};
+ghost use mathlib.Core.Bool.{true};
+ghost use Prim.Native.Nat.{ℕ, _<_};
 ghost use lib.ListN.{length};
 ghost use Rattle.std.specs.Orderings.{Decides};
 ghost use Rattle.std.specs.shelf.Lists.{joined};
 ghost use Rattle.std.specs.declared.option.Option.the-variants.{Some};
-ghost use Rattle.boards.specs.Meaning.{outlets-of, pad-at, landing-at};
+ghost use Rattle.boards.specs.Meaning.{outlets-of};
 ghost use Rattle.linkages.specs.Lists.{Mem};
 ghost use Rattle.drawings.specs.Nets.{before-at, after-at, net-at, cells-where, wired, net};
 ghost use Rattle.drawings.specs.Lawful.{Local, Begins, Goes-on, Lawful};
+ghost use Rattle.drawings.specs.Links.{Linked};
 use crate::nets::net_length;
 use crate::records::Record;
 use crate::records::record_at;
@@ -128,9 +129,10 @@ fn reached_cells<B: Board>(board: &B, drawing: &[Record]) -> usize
     count
 }
 
-// Whether a drawing is lawful for a board, for any records whatever.
+// Whether a drawing is lawful for a board, for any records whatever. The nets of a lawful drawing link its wired pads to landings.
 pub fn is_lawful<B: Board>(board: &B, drawing: &[Record]) -> bool
-    ensures { λ r. ⌜ Decides r (Lawful (meaning (now (board .entry))) (now (drawing .entry))) ⌝ }
+    ensures decides { λ r. ⌜ Decides r (Lawful (meaning (now (board .entry))) (now (drawing .entry))) ⌝ }
+    ensures links { λ r. ⌜ (r ≡ true → Linked (meaning (now (board .entry))) (now (drawing .entry))) ⌝ }
 {
     if drawing.len() != board.cells() as usize {
         return false;

@@ -2,21 +2,17 @@
 //
 // These work on any records: a net is what begins at a cell and comes to an end by going on to the cell after.
 ghost use mathlib.Core.Path.{_≡_};
-ghost use mathlib.Core.List.{List};
-ghost use Prim.Native.Nat.{ℕ, _<_, _≤_};
+ghost use Prim.Native.Nat.{_≤_};
 ghost use lib.ListN.{length};
-ghost use Rattle.std.specs.Options.{Cases as BySome};
-ghost use Rattle.std.specs.declared.option.Option.the-variants.{Some, None};
 ghost use Rattle.drawings.specs.Nets.{net, Runs, last-of};
-ghost use Rattle.drawings.specs.Changes.{freed, laid, written};
+ghost use Rattle.drawings.specs.Changes.{freed, laid, written, Measured, Taken-up, Listed, Restores};
 use crate::records::Record;
 use crate::records::put;
 use crate::records::record_at;
 
 // How many cells there are from a cell to the end of its net; none if going on from it comes to no end of a net.
 pub fn net_length(drawing: &[Record], first: u16) -> Option<usize>
-    ensures { λ r. ⌜ BySome r ((xs : List ℕ) → Runs (now (drawing .entry)) first xs → ⊥)
-        (λ n. Runs (now (drawing .entry)) first (net (now (drawing .entry)) first) × (n ≡ length (net (now (drawing .entry)) first))) ⌝ }
+    ensures { λ r. ⌜ Measured (now (drawing .entry)) first r ⌝ }
 {
     let mut cell = first;
     for passed in 0..drawing.len() {
@@ -43,17 +39,17 @@ fn free_from(drawing: &mut [Record], first: u16) -> u16
         put(drawing, cell, Record::Free);
         cell = next;
     }
-    put(drawing, cell, Record::Free);
-    cell
+    let last = cell;
+    put(drawing, last, Record::Free);
+    last
 }
 
 // Takes up a net: frees the cells from its first cell on and gives back the last of them.
 // None, and nothing is changed, if going on from the cell comes to no end of a net.
+// Laying the net of a wired pad again gives the same drawing.
 pub fn take_up(drawing: &mut [Record], first: u16) -> Option<u16>
-    ensures { λ r. ⌜ BySome r (((xs : List ℕ) → Runs (now (drawing .entry)) first xs → ⊥) × (now (drawing .exit) ≡ now (drawing .entry)))
-        (λ last. Runs (now (drawing .entry)) first (net (now (drawing .entry)) first)
-        × (last ≡ last-of first (net (now (drawing .entry)) first))
-        × (now (drawing .exit) ≡ freed (net (now (drawing .entry)) first) (now (drawing .entry)))) ⌝ }
+    ensures answer { λ r. ⌜ Taken-up (now (drawing .entry)) (now (drawing .exit)) first r ⌝ }
+    ensures restores { λ _. ⌜ Restores (now (drawing .entry)) (now (drawing .exit)) first ⌝ }
 {
     match net_length(drawing, first) {
         Some(_) => Some(free_from(drawing, first)),
@@ -99,18 +95,10 @@ fn list_from(drawing: &[Record], first: u16, into: &mut [u16]) -> usize
 // Writes the cells of a net, from its first cell on, to the front of a list and gives back how many they are.
 // None, and nothing is written, if going on from the cell comes to no end of a net or the list has not room for it.
 pub fn list_net(drawing: &[Record], first: u16, into: &mut [u16]) -> Option<usize>
-    ensures { λ r. ⌜ BySome r (((xs : List ℕ) → Runs (now (drawing .entry)) first xs → length xs ≤ length (now (into .entry)) → ⊥) × (now (into .exit) ≡ now (into .entry)))
-        (λ n. Runs (now (drawing .entry)) first (net (now (drawing .entry)) first)
-        × (n ≡ length (net (now (drawing .entry)) first))
-        × (n ≤ length (now (into .entry)))
-        × (now (into .exit) ≡ written (net (now (drawing .entry)) first) (now (into .entry)))) ⌝ }
+    ensures { λ r. ⌜ Listed (now (drawing .entry)) first (now (into .entry)) (now (into .exit)) r ⌝ }
 {
     match net_length(drawing, first) {
-        Some(count) => if count <= into.len() {
-            Some(list_from(drawing, first, into))
-        } else {
-            None
-        },
-        None => None,
+        Some(count) if count <= into.len() => Some(list_from(drawing, first, into)),
+        _ => None,
     }
 }

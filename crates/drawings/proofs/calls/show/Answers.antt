@@ -1,11 +1,11 @@
-use borrow.Author.Needs.{needs}
-use mathlib.Core.Path.{_≡_, refl, sym, ap, _∙_}
+use mathlib.Core.Path.{_≡_, sym, ap, _∙_}
 use mathlib.Core.Bool.{true}
 use native.Mathlib.Omega.{arith}
+use Rattle.boards.specs.Meaning.{pad-at}
 use Rattle.drawings.specs.Records.{is-first}
-use Rattle.drawings.specs.Nets.{first-at, net, last-of}
+use Rattle.drawings.specs.Nets.{first-at, net}
 use Rattle.drawings.proofs.Follow.{net-runs, run-short}
-use Rattle.drawings.proofs.Freeing.{run-last-at}
+use Rattle.drawings.proofs.Accepted.{may-show, shown}
 use Rattle.drawings.proofs.calls.show.Needs as need
 
 pub cast-result : need.cast-result
@@ -15,19 +15,17 @@ cast-result g c =
 
 pub returns-in-Some : need.returns-in-Some
 returns-in-Some g c =
+    let m = g .B·Board .meaning (c .args .board .now) in
     let d = c .args .drawing .now in
     let x = c .args .cell in
-    let e = c .in-Some .ensures tt in
-    let W = c .is-lawful .ensures .0 (c .if-not-is-lawful .left) in
+    let report = c .args .report .now in
+    let W = c .is-lawful .ensures .decides .0 (c .if-not-is-lawful .left) in
+    let pad : pad-at m x ≡ true = sym (c .if-not-is-pad .ensures tt) in
+    let wired : first-at d x ≡ true = sym (ap is-first (c .record-at .ensures)) ∙ sym (c .if-not-is-first .ensures tt) in
     record {
       answer = (
-        search needs,
-        record {
-          count = e .1;
-          writes = e .3;
-          from-pad = sym (c .if-not-is-pad .ensures tt);
-          to-landing = W .local (last-of x (net d x)) .last-is-landing (run-last-at x (e .0));
-        },
+        may-show m d x W report (omega arith) (omega arith) pad wired,
+        shown m d x W report (c .list-net .last .into) (c .in-Some .count) pad (c .in-Some .ensures tt),
       );
       kept = tt;
     }
@@ -37,7 +35,7 @@ returns-in-None g c =
     let m = g .B·Board .meaning (c .args .board .now) in
     let d = c .args .drawing .now in
     let x = c .args .cell in
-    let W = c .is-lawful .ensures .0 (c .if-not-is-lawful .left) in
-    let p : first-at d x ≡ true = sym (ap is-first (c .record-at .ensures)) ∙ sym (c .if-not-is-first .ensures tt) in
-    let r = net-runs m d (W .local) x p in
+    let W = c .is-lawful .ensures .decides .0 (c .if-not-is-lawful .left) in
+    let wired : first-at d x ≡ true = sym (ap is-first (c .record-at .ensures)) ∙ sym (c .if-not-is-first .ensures tt) in
+    let r = net-runs m d (W .local) x wired in
     absurd (c .in-None .ensures tt .0 (net d x) r (omega (arith, run-short r)))

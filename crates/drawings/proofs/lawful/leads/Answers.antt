@@ -1,4 +1,4 @@
-use mathlib.Core.Path.{refl, sym, ap, subst, _∙_}
+use mathlib.Core.Path.{refl, sym, ap, _∙_}
 use native.Mathlib.Omega.{arith}
 use Rattle.std.proofs.shelf.Tests.{false≢true}
 use Rattle.std.specs.declared.option.Option.the-variants.{Some}

@@ -1,11 +1,10 @@
-use mathlib.Core.Path.{_≡_, refl, sym, ap, _∙_}
-use mathlib.Core.List.{List, [], _∷_}
+use mathlib.Core.Path.{sym, ap, _∙_}
+use mathlib.Core.List.{[], _∷_}
 use native.Mathlib.Omega.{arith}
-use Prim.Native.Nat.{ℕ, _+_}
 use lib.ListN.{length}
 use Rattle.std.proofs.shelf.Tests.{both-ways}
-use Rattle.drawings.specs.Records.{after-of, is-net, is-last, record-at}
-use Rattle.drawings.specs.Nets.{net-at, net, Runs, ends, goes}
+use Rattle.drawings.specs.Records.{after-of, is-net, record-at}
+use Rattle.drawings.specs.Nets.{net-at, Runs, ends, goes}
 use Rattle.drawings.proofs.Said.{net-last}
 use Rattle.drawings.proofs.Follow.{run-short, run-some, run-first, run-net, run-step, net-run, net-here}
 use Rattle.drawings.proofs.nets.net_length.Needs as need

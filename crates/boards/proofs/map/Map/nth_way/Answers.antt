@@ -1,8 +1,7 @@
 use mathlib.Core.Path.{_≡_, sym, _∙_}
 use mathlib.Core.List.{map}
-use Prim.Native.Nat.{_<_}
 use native.Mathlib.Omega.{arith}
-use lib.ListN.{length, length-map, getD}
+use lib.ListN.{length-map, getD}
 use lib.Seq.{take-all}
 use Rattle.std.specs.Of.Vec.{vec-items}
 use Rattle.std.specs.declared.option.Option.the-variants.{Some, None}
@@ -20,9 +19,8 @@ returns-then-left-eq0 c =
     let f = way (c .args .layers) (m .rows) (m .columns) (vec-items (m .bytes)) (c .args .from) in
     let steps = c .args .steps .now in
     let i = c .loop-step .step-index in
-    let h : i < length (map f steps) = simp length-map (c .loop-step-test .taken) in
     let e : getD (map f steps) i None ≡ Some (c .in-Some .next) = getD-map f steps i North None (c .loop-step-test .taken) ∙ sym (c .in-Some .ensures tt) in
-    sym (at-somes (map f steps) i (c .args .j) (c .in-Some .next) h e (omega arith))
+    sym (at-somes (map f steps) i (c .args .j) (c .in-Some .next) e (omega arith))
 
 pub loop-step-again : need.loop-step-again
 loop-step-again c =
@@ -30,14 +28,13 @@ loop-step-again c =
     let f = way (c .args .layers) (m .rows) (m .columns) (vec-items (m .bytes)) (c .args .from) in
     let steps = c .args .steps .now in
     let i = c .loop-step .step-index in
-    let h : i < length (map f steps) = simp length-map (c .loop-step-test .taken) in
     let g = getD-map f steps i North None (c .loop-step-test .taken) in
     elim (c .match-way .came) [
       | in-Some·else-left-eq0 w ↦
-          let k = somes-more (map f steps) i h (w .in-Some .next) (g ∙ sym (w .in-Some .ensures tt)) in
+          let k = somes-more (map f steps) i (w .in-Some .next) (g ∙ sym (w .in-Some .ensures tt)) in
           omega (arith, w .left-is, w .if-left-eq0 .left, c .loop-step .inv)
       | in-rest w ↦
-          let k = somes-same (map f steps) i h (g ∙ sym (w .in-rest .ensures tt)) in
+          let k = somes-same (map f steps) i (g ∙ sym (w .in-rest .ensures tt)) in
           omega (arith, w .left-is, c .loop-step .inv)
     ]
 
