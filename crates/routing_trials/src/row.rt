@@ -1,0 +1,109 @@
+// A board as a line of the table gives it, and the cells to be placed on it.
+//
+// `field 1 3 112 4 : 0 1` is a field of one row and three columns with the map 1 1 2 and cell 4 kept out, on which cell 0 is
+// placed and then cell 1.
+ghost use mathlib.Core.Path.{_≡_};
+ghost use Prim.Native.Nat.{_-_, _<_, _≤_};
+ghost use Rattle.std.specs.declared.option.Option.the-variants.{Some, None};
+use boards::maps::MapKind;
+use std::alloc::AllocError;
+use std::alloc::Global;
+use std::alloc::Refused;
+
+#[derive(Drop)]
+pub struct Row {
+    pub kind: MapKind,
+    pub rows: u16,
+    pub columns: u16,
+    pub bytes: Vec<u8>,
+    pub kept: Vec<u16>,
+    pub order: Vec<u16>,
+}
+
+#[derive(Drop)]
+pub enum RowError {
+    // The line is no row of the table.
+    Form,
+    Memory,
+}
+
+impl From<AllocError> for RowError as RowErrorFromAlloc {
+    fn from(_error: AllocError) -> RowError {
+        RowError::Memory
+    }
+}
+
+impl<T: Drop> From<Refused<T>> for RowError as RowErrorFromRefused {
+    fn from(_error: Refused<T>) -> RowError {
+        RowError::Memory
+    }
+}
+
+pub fn read_row(heap: Global, line: &str) -> Result<Row, RowError> {
+    let Some((board, order)) = line.split_once(':') else {
+        return Err(RowError::Form);
+    };
+    let mut words = board.split_ascii_whitespace();
+    let kind = read_kind(words.next())?;
+    let rows = read_number(words.next())?;
+    let columns = read_number(words.next())?;
+    let bytes = read_map(heap, words.next().unwrap_or(""))?;
+    let mut kept = Vec::new(heap);
+    for word in words {
+        kept.push(read_number(Some(word))?)?;
+    }
+    Ok(Row {
+        kind,
+        rows,
+        columns,
+        bytes,
+        kept,
+        order: read_numbers(heap, order)?,
+    })
+}
+
+fn read_kind(word: Option<&str>) -> Result<MapKind, RowError> {
+    match word {
+        Some("field") => Ok(MapKind::FieldMap),
+        Some("escape") => Ok(MapKind::EscapeMap),
+        _ => Err(RowError::Form),
+    }
+}
+
+fn read_number(word: Option<&str>) -> Result<u16, RowError> {
+    match word.unwrap_or("").parse() {
+        Ok(number) => Ok(number),
+        Err(_) => Err(RowError::Form),
+    }
+}
+
+fn read_numbers(heap: Global, text: &str) -> Result<Vec<u16>, RowError> {
+    let mut numbers = Vec::new(heap);
+    for word in text.split_ascii_whitespace() {
+        numbers.push(read_number(Some(word))?)?;
+    }
+    Ok(numbers)
+}
+
+fn read_map(heap: Global, digits: &str) -> Result<Vec<u8>, RowError> {
+    let mut bytes = Vec::new(heap);
+    for byte in digits.as_bytes() {
+        match digit(*byte) {
+            Some(value) => bytes.push(value)?,
+            None => return Err(RowError::Form),
+        }
+    }
+    Ok(bytes)
+}
+
+// The value of a decimal digit.
+fn digit(byte: u8) -> Option<u8>
+    ensures digit { λ r. ⌜ (48 ≤ byte → byte ≤ 57 → r ≡ Some (byte - 48)) ⌝ }
+    ensures below { λ r. ⌜ (byte < 48 → r ≡ None) ⌝ }
+    ensures above { λ r. ⌜ (57 < byte → r ≡ None) ⌝ }
+{
+    match byte {
+        b'0'..=b'9' => Some(byte - b'0'),
+        _ => None,
+    }
+}
