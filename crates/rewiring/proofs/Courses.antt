@@ -1,20 +1,19 @@
 -- A trail taken back as far as one of its cells.
-use mathlib.Core.Path.{_≡_, refl, sym, ap, subst, _∙_}
-use mathlib.Core.Bool.{true, false, _||_, _&&_}
+use mathlib.Core.Path.{_≡_, sym, ap, subst, _∙_}
+use mathlib.Core.Bool.{true, _||_, _&&_}
 use mathlib.Core.List.{List, [], _∷_}
-use mathlib.Core.Logic.{_⊎_, inl, inr, ⊎-elim}
-use Prim.Native.Nat.{ℕ, _+_, _-_, _<_, _≤_}
+use mathlib.Core.Logic.{inl, inr, ⊎-elim}
+use Prim.Native.Nat.{ℕ, _+_, _-_, _<_}
 use native.Mathlib.Omega.{arith}
 use lib.Dec.{eqb}
 use lib.ListN.{length, getD}
-use Rattle.std.specs.declared.option.Option.the-variants.{Some, None}
-use Rattle.std.proofs.shelf.Tests.{cases-lt, both-ways, and-parts, and-from, or-cases, or-left, or-right, eqb-true, eq-eqb}
+use Rattle.std.proofs.shelf.Tests.{cases-lt, and-parts, and-from, or-cases, or-left, or-right, eqb-true, eq-eqb}
 use Rattle.boards.specs.Meaning.{Meaning, pad-at, landing-at}
 use Rattle.linkages.specs.Lists.{Mem, here, there, Next}
 use Rattle.linkages.proofs.Members.{mem-none, mem-one, mem-cases}
 use Rattle.linkages.proofs.Places.{mem-getD, has-from-mem, by-places}
 use Rattle.drawings.specs.declared.records.Record.{Record}
-use Rattle.drawings.specs.Nets.{before-at, net-at, first-at, barred-at, wired, bars, used}
+use Rattle.drawings.specs.Nets.{net-at, first-at, barred-at, wired, bars, used}
 use Rattle.drawings.specs.Lawful.{Local, Lawful}
 use Rattle.drawings.proofs.Said.{first-net, net-inside}
 use Rattle.drawings.proofs.Cells.{kept-below, below-kept}
@@ -22,7 +21,7 @@ use Rattle.drawings.proofs.Freeing.{cells-same}
 use Rattle.rewiring.specs.Trails.{Trail}
 use Rattle.rewiring.specs.Moves.{alone, moved, Opened}
 use Rattle.rewiring.proofs.Stages.{Stage}
-use Rattle.rewiring.proofs.Steps.{Same-front, Step, step, begun}
+use Rattle.rewiring.proofs.Steps.{Same-front, step, begun}
 
 -- the net begins at the i-th cell, and the cells before it are on nets as they were
 pub record Back-to (m : Meaning) (d : List Record) (z : ℕ) (e : List Record) (ts : List ℕ) (i : ℕ) : Type 0 where

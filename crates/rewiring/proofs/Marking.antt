@@ -7,13 +7,12 @@ use Prim.Native.Nat.{ℕ, _+_, _<_, _≤_}
 use native.Mathlib.Omega.{arith}
 use lib.ListN.{length, getD, set}
 use Rattle.std.proofs.shelf.Lists.{getD-set-same, getD-set-other, length-set}
-use Rattle.std.proofs.shelf.Tests.{cases-eq, cases-order}
+use Rattle.std.proofs.shelf.Tests.{cases-eq}
 use Rattle.boards.specs.Meaning.{Meaning}
 use Rattle.linkages.specs.Lists.{Mem, here, there}
 use Rattle.linkages.proofs.Members.{mem-none}
 use Rattle.drawings.specs.declared.records.Record.{Record}
-use Rattle.drawings.specs.Records.{record-at}
-use Rattle.drawings.specs.Nets.{net-at, first-at, net}
+use Rattle.drawings.specs.Nets.{first-at, net}
 use Rattle.drawings.specs.Lawful.{Local, Reached}
 use Rattle.drawings.proofs.Said.{first-net, net-inside}
 use Rattle.drawings.proofs.Follow.{run-net, net-runs, net-reached, reached-net}

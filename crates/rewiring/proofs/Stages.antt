@@ -1,15 +1,13 @@
 -- A drawing while a trail is taken back: every local rule holds but for some first cells that are no pads, the heads, and some
 -- last cells that are no landings, the tails.
 use mathlib.Core.Path.{_≡_, refl, sym, ap, subst, _∙_}
-use mathlib.Core.Bool.{Bool, true, false, _||_}
+use mathlib.Core.Bool.{true, false, _||_}
 use mathlib.Core.List.{List, [], _∷_}
 use mathlib.Core.Logic.{_⊎_, inl, inr, ⊎-elim}
-use Prim.Native.Nat.{ℕ, _<_}
+use Prim.Native.Nat.{ℕ}
 use lib.Dec.{eqb}
-use lib.ListN.{length, set}
-use Rattle.std.specs.declared.option.Option.{Option}
+use lib.ListN.{length}
 use Rattle.std.specs.declared.option.Option.the-variants.{Some, None}
-use Rattle.std.proofs.shelf.Lists.{length-set}
 use Rattle.std.proofs.shelf.Tests.{cases-eq, cases-bool, both-ways, false≢true}
 use Rattle.boards.specs.Meaning.{Meaning, outlets-of, landing-at}
 use Rattle.linkages.specs.Lists.{Mem, here, there}
@@ -18,10 +16,8 @@ use Rattle.drawings.specs.declared.records.Record.{Record}
 use Rattle.drawings.specs.declared.records.Record.the-variants.{Free, Barred, Net}
 use Rattle.drawings.specs.Records.{before-of, after-of, is-net, is-barred, is-first, is-last, record-at}
 use Rattle.drawings.specs.Nets.{before-at, after-at, net-at, first-at, last-at, barred-at}
-use Rattle.drawings.proofs.Said.{none-not-some, some-same, after-net, last-net, first-net, net-unbarred, net-inside}
-use Rattle.drawings.proofs.Changed.{set-other}
-use Rattle.rewiring.specs.Moves.{alone}
-use Rattle.rewiring.proofs.Relinks.{Relinked, set-here}
+use Rattle.drawings.proofs.Said.{none-not-some, some-same, after-net, last-net, first-net, net-unbarred}
+use Rattle.rewiring.proofs.Relinks.{Relinked}
 
 pub record Stage (m : Meaning) (d : List Record) (z : ℕ) (e : List Record) (heads tails : List ℕ) : Type 0 where
   pub long : length e ≡ length d

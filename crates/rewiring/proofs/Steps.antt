@@ -6,13 +6,12 @@ use mathlib.Core.Logic.{_⊎_, inl, inr, ⊎-elim}
 use Prim.Native.Nat.{ℕ, _<_}
 use lib.Dec.{eqb}
 use lib.ListN.{length, set}
-use Rattle.std.specs.declared.option.Option.{Option}
 use Rattle.std.specs.declared.option.Option.the-variants.{Some, None}
 use Rattle.std.proofs.shelf.Lists.{length-set}
-use Rattle.std.proofs.shelf.Tests.{cases-eq, cases-bool, both-ways, false≢true, eq-eqb, ne-eqb, or-left, or-right, or-from}
+use Rattle.std.proofs.shelf.Tests.{cases-eq, cases-bool, false≢true, eq-eqb, ne-eqb, or-right}
 use Rattle.boards.specs.Meaning.{Meaning, outlets-of, landing-at}
 use Rattle.linkages.specs.Lists.{Mem, here, there}
-use Rattle.linkages.proofs.Members.{mem-none, mem-one, mem-cases, mem-at}
+use Rattle.linkages.proofs.Members.{mem-none, mem-one}
 use Rattle.drawings.specs.declared.records.Record.{Record}
 use Rattle.drawings.specs.declared.records.Record.the-variants.{Free, Barred, Net}
 use Rattle.drawings.specs.Records.{before-of, after-of, is-net, is-barred, is-first, is-last, record-at}

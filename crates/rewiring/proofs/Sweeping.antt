@@ -1,9 +1,9 @@
 -- What is left when the net cells that no net reaches are freed.
 use mathlib.Core.Path.{_≡_, refl, sym, ap, subst, _∙_}
 use mathlib.Core.Bool.{Bool, true, false, not, _&&_}
-use mathlib.Core.List.{List, [], _∷_}
-use mathlib.Core.Logic.{_⊎_, inl, inr, ⊎-elim}
-use Prim.Native.Nat.{ℕ, zero, suc, _+_, _<_, _≤_}
+use mathlib.Core.List.{List}
+use mathlib.Core.Logic.{⊎-elim}
+use Prim.Native.Nat.{ℕ, zero, suc, _+_, _<_}
 use native.Mathlib.Omega.{arith}
 use lib.Dec.{eqb}
 use lib.ListN.{length, getD, set}
@@ -11,23 +11,23 @@ use Rattle.std.specs.Iters.{counting}
 use Rattle.std.specs.shelf.Lists.{kept-by}
 use Rattle.std.specs.declared.option.Option.{Option}
 use Rattle.std.specs.declared.option.Option.the-variants.{Some, None}
-use Rattle.std.proofs.shelf.Lists.{getD-set-same, getD-set-other, length-set}
-use Rattle.std.proofs.shelf.Tests.{cases-eq, cases-bool, both-ways, false≢true, and-parts, and-from, and-cases, eqb-true, eq-eqb, ne-eqb, eqb-false, not-true, not-false, not-from-false}
+use Rattle.std.proofs.shelf.Lists.{length-set}
+use Rattle.std.proofs.shelf.Tests.{cases-eq, cases-bool, both-ways, false≢true, and-parts, and-from, ne-eqb, eqb-false, not-true, not-from-false}
 use Rattle.boards.specs.Meaning.{Meaning, landing-at}
-use Rattle.linkages.specs.Lists.{Mem, here, there}
-use Rattle.linkages.proofs.Members.{mem-none, mem-at, dec-mem}
+use Rattle.linkages.specs.Lists.{Mem}
+use Rattle.linkages.proofs.Members.{dec-mem}
 use Rattle.drawings.specs.declared.records.Record.{Record}
 use Rattle.drawings.specs.declared.records.Record.the-variants.{Free, Barred, Net}
-use Rattle.drawings.specs.Records.{before-of, after-of, is-net, is-barred, is-first, is-last, record-at}
-use Rattle.drawings.specs.Nets.{before-at, after-at, net-at, first-at, last-at, barred-at, wired, bars, used, net, Runs, ends, goes}
-use Rattle.drawings.specs.Lawful.{Local, Reached, first, next, Lawful}
+use Rattle.drawings.specs.Records.{before-of, is-net, is-barred, is-first, record-at}
+use Rattle.drawings.specs.Nets.{before-at, after-at, net-at, first-at, barred-at, Runs, ends, goes}
+use Rattle.drawings.specs.Lawful.{Local, Reached, first, next}
 use Rattle.drawings.specs.Outcomes.{Frees}
-use Rattle.drawings.proofs.Said.{some-same, before-net, after-net, first-net, net-unbarred, net-inside}
+use Rattle.drawings.proofs.Said.{some-same, before-net, after-net, net-unbarred, net-inside}
 use Rattle.drawings.proofs.Cells.{kept-below, below-kept}
 use Rattle.drawings.proofs.Changed.{set-free, set-free-stays, set-other}
 use Rattle.drawings.proofs.Follow.{run-first, run-net, run-short, not-first}
 use Rattle.drawings.proofs.Freeing.{free-lawful, cells-same}
-use Rattle.rewiring.specs.Marks.{marked, Marks-reached, is-stray, strays, Swept}
+use Rattle.rewiring.specs.Marks.{Marks-reached, is-stray, strays, Swept}
 
 -- ---- a cell from which a net comes to its end is reached: going back from it meets no cell twice, so it comes to a first cell
 

@@ -4,7 +4,7 @@ use mathlib.Core.Bool.{Bool, not, _&&_}
 use mathlib.Core.List.{List, [], _∷_}
 use Prim.Native.Nat.{ℕ}
 use lib.Dec.{eqb}
-use lib.ListN.{length, getD, set}
+use lib.ListN.{getD, set}
 use Rattle.boards.specs.Meaning.{Meaning}
 use Rattle.drawings.specs.declared.records.Record.{Record}
 use Rattle.drawings.specs.Nets.{net-at, wired, bars, used, cells-where}

@@ -2,6 +2,8 @@
 //
 // The trail is taken back from its landing to its pad, moving wires as need be. That can leave rings, cut off from every pad,
 // and a sweep frees them.
-pub mod moves;
+mod moves;
 pub mod rewire;
-pub mod sweep;
+mod sweep;
+#[cfg(test)]
+mod tests;

@@ -2,7 +2,6 @@
 //
 // All along there is one net that begins at the cell of the trail that was come to, in place of a pad.
 ghost use mathlib.Core.Path.{_≡_};
-ghost use mathlib.Core.List.{List};
 ghost use Prim.Native.Nat.{ℕ, _<_};
 ghost use lib.ListN.{length};
 ghost use Rattle.boards.specs.Meaning.{Meaning};

@@ -1,5 +1,4 @@
 // One pad more.
-ghost use mathlib.Core.Path.{_≡_};
 ghost use Prim.Native.Nat.{ℕ, _≤_};
 ghost use lib.ListN.{length};
 ghost use Rattle.drawings.specs.Lawful.{Lawful};

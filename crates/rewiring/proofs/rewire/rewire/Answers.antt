@@ -1,8 +1,7 @@
-use mathlib.Core.Path.{_≡_, sym, subst, _∙_}
+use mathlib.Core.Path.{sym, subst, _∙_}
 use mathlib.Core.List.{List, _∷_}
 use native.Mathlib.Omega.{arith}
 use Prim.Native.Nat.{ℕ}
-use lib.ListN.{length}
 use Rattle.linkages.specs.Lists.{Same}
 use Rattle.drawings.specs.Nets.{wired, used}
 use Rattle.rewiring.proofs.Courses.{some-cells}

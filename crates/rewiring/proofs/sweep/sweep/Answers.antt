@@ -1,4 +1,3 @@
-use mathlib.Core.Path.{_≡_}
 use Rattle.rewiring.proofs.Sweeping.{swept}
 use Rattle.rewiring.proofs.sweep.sweep.Needs as need
 

@@ -1,5 +1,4 @@
 use borrow.Author.Count.{below-more}
-use mathlib.Core.Path.{_≡_}
 use mathlib.Core.Logic.{_≢_, ⊎-elim}
 use native.Mathlib.Omega.{arith}
 use Prim.Native.Nat.{_<_}
