@@ -11,7 +11,7 @@ use boards::field::Field;
 use boards::field::FieldBoard;
 use drawings::calls::new;
 use drawings::records::Record;
-use routing::calls::place;
+use routing::place::place;
 use std::alloc::AllocError;
 use std::alloc::Global;
 use std::env;

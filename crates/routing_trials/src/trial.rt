@@ -15,7 +15,7 @@ use drawings::lawful::is_lawful;
 use drawings::records::Record;
 use drawings::records::record_at;
 use drawings::refusals::Refusal;
-use routing::calls::place;
+use routing::place::place;
 use std::alloc::AllocError;
 use std::alloc::Global;
 

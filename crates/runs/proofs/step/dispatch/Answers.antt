@@ -18,7 +18,7 @@ returns-in-Lift g c =
 pub returns-in-Bar : need.returns-in-Bar
 returns-in-Bar g c =
     subst (λ (k : Kind). Performs (g .B·Board .meaning (c .args .board .now)) k (c .args .cell) (c .args .drawing .now) (c .bar .last .drawing)
-      (c .args .work .now) (c .bar .last .work) (c .args .report .now) (c .bar .last .report) (c .bar .result))
+    (c .args .work .now) (c .bar .last .work) (c .args .report .now) (c .bar .last .report) (c .bar .result))
     (sym (c .in-Bar .is)) (c .bar .ensures .answer, c .bar .ensures .left)
 
 pub returns-in-Clear : need.returns-in-Clear
