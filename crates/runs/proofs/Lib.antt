@@ -5,3 +5,4 @@ pub mod Shown
 pub mod Upheld
 pub mod Claiming
 pub mod Telling
+pub mod SmallRuns

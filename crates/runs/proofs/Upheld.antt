@@ -1,7 +1,6 @@
 -- A call that does what its kind promises upholds the claim.
-use mathlib.Core.Path.{_≡_, refl, sym, ap, subst, _∙_}
-use mathlib.Core.Bool.{true}
-use mathlib.Core.List.{List, [], _∷_}
+use mathlib.Core.Path.{_≡_, sym, subst}
+use mathlib.Core.List.{List, _∷_}
 use mathlib.Core.Logic.{_⊎_, inl, inr}
 use Prim.Native.Nat.{ℕ}
 use native.Mathlib.Omega.{arith}
@@ -10,18 +9,16 @@ use Rattle.std.specs.declared.result.Result.{Result}
 use Rattle.std.specs.declared.result.Result.the-variants.{Ok, Err}
 use Rattle.boards.specs.Meaning.{Meaning}
 use Rattle.boards.specs.Refusals.{Answer}
-use Rattle.linkages.specs.Lists.{Same}
 use Rattle.drawings.specs.declared.records.Record.{Record}
 use Rattle.drawings.specs.declared.refusals.Refusal.{Refusal}
 use Rattle.drawings.specs.declared.refusals.Refusal.the-variants.{WrongDrawing, ShortWork, ShortReport, NotLawful, NoSuchCell, NotPad, WiredAlready, NotWired, BarredAlready, NotBarred, WiredPad, NoWay}
-use Rattle.drawings.specs.Nets.{wired, bars, without}
+use Rattle.drawings.specs.Nets.{wired, bars}
 use Rattle.drawings.specs.Numbers.{number-of}
-use Rattle.drawings.specs.Lawful.{Lawful}
 use Rattle.drawings.specs.Outcomes.{Lifted, Cleared}
 use Rattle.routing.specs.Outcomes.{Leaves, Fenced, Untouched, Pad-placed, Cell-barred}
 use Rattle.runs.specs.declared.calls.Kind.{Kind}
 use Rattle.runs.specs.declared.calls.Kind.the-variants.{Place, Lift, Bar, Clear}
-use Rattle.runs.specs.Histories.{Event, History, Book, stands, book, entered, fed, pads-to-meet, bars-to-meet}
+use Rattle.runs.specs.Histories.{History, Book, stands, book, fed}
 use Rattle.runs.specs.Claim.{Refused, Upheld, Upholds, Shows-fence}
 use Rattle.runs.specs.Steps.{event, Performs}
 use Rattle.runs.proofs.Standing.{Standing, standing}
@@ -44,78 +41,24 @@ left-drawing NotBarred l u f = u l
 left-drawing WiredPad l u f = u l
 left-drawing (NoWay p k) l u f = f p k l
 
-ok-not-err : {X : Type 0} {x : ℕ} {r : Refusal} → _≡_ {A = Result ℕ Refusal} (Ok x) (Err r) → X
-ok-not-err e = let z : _≡_ {A = ℕ} 0 1 = cc in let n : ⊥ = omega arith in absurd n
-
-refusal-of : Result ℕ Refusal → Refusal
-refusal-of (Ok x) = WrongDrawing
-refusal-of (Err r) = r
-
-same-refusal : {r s : Refusal} → _≡_ {A = Result ℕ Refusal} (Err r) (Err s) → r ≡ s
-unfolding refusal-of
-same-refusal e = ap refusal-of e
-
-module _ (m : Meaning) (h : History) (u : Upholds m h) (c : ℕ) (d e : List Record) (work work′ report report′ : List ℕ) (goes-on : d ≡ stands m h) where
-  S : Standing m d (book h)
-  S = subst (λ (x : List Record). Standing m x (book h)) (sym goes-on) (standing m h u)
-
-  -- a refused call that leaves the drawing as it was
-  refused-upheld : (kind : Kind) (r : Refusal) → e ≡ d →
-      Answer {X = ℕ} number-of (Refused m (book h) kind c work report) (λ _. Unit {0}) (Err r) →
-      ((p k : ℕ) → r ≡ NoWay p k → Shows-fence m (book h) (event kind c d e work work′ report report′ (Err r)) p k) →
-      Upheld m (event kind c d e work work′ report report′ (Err r)) h
-  refused-upheld kind r same a f = record {
-    goes-on = goes-on;
-    lawful = subst (Lawful m) (sym same) (S .lawful);
-    holds-pads = same-trans (same-at (ap wired same)) (S .pads);
-    holds-bars = same-trans (same-at (ap bars same)) (S .barred);
-    numbered = a;
-    fenced = λ p k g. f p k (same-refusal g);
-  }
-
-  accepted-upheld : (kind : Kind) (x : ℕ) → Lawful m e → Same (wired e) (entered kind c (book h) .pads) → Same (bars e) (entered kind c (book h) .barred) →
-      Answer number-of (Refused m (book h) kind c work report) (λ _. Unit {0}) (Ok x) →
-      Upheld m (event kind c d e work work′ report report′ (Ok x)) h
-  accepted-upheld kind x lawful pads barred a = record {
-    goes-on = goes-on;
-    lawful = lawful;
-    holds-pads = pads;
-    holds-bars = barred;
-    numbered = a;
-    fenced = λ p k g. ok-not-err g;
-  }
+-- what a call that does what its kind promises answers and leaves, by a book that the drawing before it holds
+module _ (m : Meaning) (d : List Record) (b : Book) (S : Standing m d b) (c : ℕ) (e : List Record) (work work′ report report′ : List ℕ) where
+  -- the answer is the one that the order of conditions gives
+  pub judged : (kind : Kind) (r : Result ℕ Refusal) → Performs m kind c d e work work′ report report′ r →
+      Answer number-of (Refused m b kind c work report) (λ _. Unit {0}) r
+  judged Place r P =
+      answer-by number-of _ _ (Pad-placed m d e work work′ report report′ c) (place-to-book m d b S c work report) (place-from-book m d b S c work report) r (P .0)
+  judged Lift r P = answer-by number-of _ _ (Lifted m d e c) (lift-to-book m d b S c work report) (lift-from-book m d b S c work report) r (P .0)
+  judged Bar r P =
+      answer-by number-of _ _ (Cell-barred m d e work work′ report report′ c) (bar-to-book m d b S c work report) (bar-from-book m d b S c work report) r (P .0)
+  judged Clear r P = answer-by number-of _ _ (Cleared m d e c) (clear-to-book m d b S c work report) (clear-from-book m d b S c work report) r (P .0)
 
   -- lift and clear are never refused for want of a way
-  no-fence : (kind : Kind) (r : Refusal) → ((kind ≡ Place) ⊎ (kind ≡ Bar) → ⊥) →
-      Answer {X = ℕ} number-of (Refused m (book h) kind c work report) (λ _. Unit {0}) (Err r) →
-      (p k : ℕ) → r ≡ NoWay p k → Shows-fence m (book h) (event kind c d e work work′ report report′ (Err r)) p k
-  no-fence kind r not-these a p k g =
-      let twelve = subst (λ (s : Refusal). Refused m (book h) kind c work report (number-of s)) g (a .0) in
-      absurd (not-these (for-want m (book h) c work report kind twelve .1))
-
-  place-upheld : (r : Result ℕ Refusal) → Performs m Place c d e work work′ report report′ r → Upheld m (event Place c d e work work′ report report′ r) h
-  place-upheld (Ok z) P =
-      let w = P .0 .1 .wired-also .rewired in
-      accepted-upheld Place z (w .lawful) (same-trans (w .one-more) (same-more c _ _ (S .pads))) (same-trans (same-at (w .same-bars)) (S .barred))
-      (answer-by number-of _ _ (Pad-placed m d e work work′ report report′ c) (place-to-book m d (book h) S c work report) (place-from-book m d (book h) S c work report) (Ok z) (P .0))
-  place-upheld (Err r) P =
-      refused-upheld Place r (left-drawing r (P .1) (λ l. l .drawing-kept) (λ p k l. l .drawing-kept))
-      (answer-by number-of _ _ (Pad-placed m d e work work′ report report′ c) (place-to-book m d (book h) S c work report) (place-from-book m d (book h) S c work report) (Err r) (P .0))
-      (λ p k g.
-      let F = subst (Leaves (Untouched d e work work′ report report′) (Fenced m d e (bars d) (c ∷ wired d) work work′ report report′)) g (P .1) in
-      shows-fence m (book h) (event Place c d e work work′ report report′ (Err r)) (bars d) (c ∷ wired d) (S .barred) (same-more c _ _ (S .pads)) p k (F .shown))
-
-  bar-upheld : (r : Result ℕ Refusal) → Performs m Bar c d e work work′ report report′ r → Upheld m (event Bar c d e work work′ report report′ r) h
-  bar-upheld (Ok z) P =
-      let w = P .0 .1 .barred-also in
-      accepted-upheld Bar z (w .lawful) (same-trans (w .same-wired) (S .pads)) (same-trans (w .one-more) (same-more c _ _ (S .barred)))
-      (answer-by number-of _ _ (Cell-barred m d e work work′ report report′ c) (bar-to-book m d (book h) S c work report) (bar-from-book m d (book h) S c work report) (Ok z) (P .0))
-  bar-upheld (Err r) P =
-      refused-upheld Bar r (left-drawing r (P .1) (λ l. l .drawing-kept) (λ p k l. l .drawing-kept))
-      (answer-by number-of _ _ (Cell-barred m d e work work′ report report′ c) (bar-to-book m d (book h) S c work report) (bar-from-book m d (book h) S c work report) (Err r) (P .0))
-      (λ p k g.
-      let F = subst (Leaves (Untouched d e work work′ report report′) (Fenced m d e (c ∷ bars d) (wired d) work work′ report report′)) g (P .1) in
-      shows-fence m (book h) (event Bar c d e work work′ report report′ (Err r)) (c ∷ bars d) (wired d) (same-more c _ _ (S .barred)) (S .pads) p k (F .shown))
+  never : {Q : Type 0} (kind : Kind) (r : Result ℕ Refusal) (p k : ℕ) → ((kind ≡ Place) ⊎ (kind ≡ Bar) → ⊥) →
+      Answer number-of (Refused m b kind c work report) (λ _. Unit {0}) r → r ≡ Err (NoWay p k) → Q
+  never kind r p k not-these a g =
+      let twelve = subst (Answer number-of (Refused m b kind c work report) (λ _. Unit {0})) g a .0 in
+      absurd (not-these (for-want m b c work report kind twelve .1))
 
   not-lift : (Lift ≡ Place) ⊎ (Lift ≡ Bar) → ⊥
   not-lift (inl g) = let z : _≡_ {A = ℕ} 0 1 = cc in omega arith
@@ -125,27 +68,52 @@ module _ (m : Meaning) (h : History) (u : Upholds m h) (c : ℕ) (d e : List Rec
   not-clear (inl g) = let z : _≡_ {A = ℕ} 0 1 = cc in omega arith
   not-clear (inr g) = let z : _≡_ {A = ℕ} 0 1 = cc in omega arith
 
-  lift-upheld : (r : Result ℕ Refusal) → Performs m Lift c d e work work′ report report′ r → Upheld m (event Lift c d e work work′ report report′ r) h
-  lift-upheld (Ok z) P =
-      let w = P .0 .1 in
-      accepted-upheld Lift z (w .lawful) (same-trans (same-at (w .one-less)) (same-without c _ _ (S .pads))) (same-trans (same-at (w .same-bars)) (S .barred))
-      (answer-by number-of _ _ (Lifted m d e c) (lift-to-book m d (book h) S c work report) (lift-from-book m d (book h) S c work report) (Ok z) (P .0))
-  lift-upheld (Err r) P =
-      let a = answer-by number-of _ _ (Lifted m d e c) (lift-to-book m d (book h) S c work report) (lift-from-book m d (book h) S c work report) (Err r) (P .0) in
-      refused-upheld Lift r (P .1) a (no-fence Lift r not-lift a)
+  -- a refusal for want of a way shows the fence
+  pub fenced-by : (kind : Kind) (r : Result ℕ Refusal) → Performs m kind c d e work work′ report report′ r → (p k : ℕ) → r ≡ Err (NoWay p k) →
+      Shows-fence m b (event kind c d e work work′ report report′ r) p k
+  fenced-by Place r P p k g =
+      let F = subst (λ (x : Result ℕ Refusal). refused x (Leaves (Untouched d e work work′ report report′)
+            (Fenced m d e (bars d) (c ∷ wired d) work work′ report report′))) g (P .1) in
+      shows-fence m b (event Place c d e work work′ report report′ r) (bars d) (c ∷ wired d) (S .barred) (same-more c _ _ (S .pads)) p k (F .shown)
+  fenced-by Bar r P p k g =
+      let F = subst (λ (x : Result ℕ Refusal). refused x (Leaves (Untouched d e work work′ report report′)
+            (Fenced m d e (c ∷ bars d) (wired d) work work′ report report′))) g (P .1) in
+      shows-fence m b (event Bar c d e work work′ report report′ r) (c ∷ bars d) (wired d) (same-more c _ _ (S .barred)) (S .pads) p k (F .shown)
+  fenced-by Lift r P p k g = never Lift r p k not-lift (judged Lift r P) g
+  fenced-by Clear r P p k g = never Clear r p k not-clear (judged Clear r P) g
 
-  clear-upheld : (r : Result ℕ Refusal) → Performs m Clear c d e work work′ report report′ r → Upheld m (event Clear c d e work work′ report report′ r) h
-  clear-upheld (Ok z) P =
-      let w = P .0 .1 in
-      accepted-upheld Clear z (w .lawful) (same-trans (same-at (w .same-wired)) (S .pads)) (same-trans (same-at (w .one-less)) (same-without c _ _ (S .barred)))
-      (answer-by number-of _ _ (Cleared m d e c) (clear-to-book m d (book h) S c work report) (clear-from-book m d (book h) S c work report) (Ok z) (P .0))
-  clear-upheld (Err r) P =
-      let a = answer-by number-of _ _ (Cleared m d e c) (clear-to-book m d (book h) S c work report) (clear-from-book m d (book h) S c work report) (Err r) (P .0) in
-      refused-upheld Clear r (P .1) a (no-fence Clear r not-clear a)
+  -- the drawing after it holds the book that was fed the call
+  unchanged : e ≡ d → Standing m e b
+  unchanged same = subst (λ (x : List Record). Standing m x b) (sym same) S
 
-  pub step-upheld : (kind : Kind) (r : Result ℕ Refusal) → Performs m kind c d e work work′ report report′ r →
-      Upheld m (event kind c d e work work′ report report′ r) h
-  step-upheld Place r P = place-upheld r P
-  step-upheld Lift r P = lift-upheld r P
-  step-upheld Bar r P = bar-upheld r P
-  step-upheld Clear r P = clear-upheld r P
+  pub holds-fed : (kind : Kind) (r : Result ℕ Refusal) → Performs m kind c d e work work′ report report′ r → Standing m e (fed kind c r b)
+  holds-fed Place (Ok z) P =
+      let w = P .0 .1 .wired-also .rewired in
+      record { lawful = w .lawful; pads = same-trans (w .one-more) (same-more c _ _ (S .pads)); barred = same-trans (same-at (w .same-bars)) (S .barred) }
+  holds-fed Place (Err r) P = unchanged (left-drawing r (P .1) (λ l. l .drawing-kept) (λ p k l. l .drawing-kept))
+  holds-fed Lift (Ok z) P =
+      let w = P .0 .1 in
+      record { lawful = w .lawful; pads = same-trans (same-at (w .one-less)) (same-without c _ _ (S .pads)); barred = same-trans (same-at (w .same-bars)) (S .barred) }
+  holds-fed Lift (Err r) P = unchanged (P .1)
+  holds-fed Bar (Ok z) P =
+      let w = P .0 .1 .barred-also in
+      record { lawful = w .lawful; pads = same-trans (w .same-wired) (S .pads); barred = same-trans (w .one-more) (same-more c _ _ (S .barred)) }
+  holds-fed Bar (Err r) P = unchanged (left-drawing r (P .1) (λ l. l .drawing-kept) (λ p k l. l .drawing-kept))
+  holds-fed Clear (Ok z) P =
+      let w = P .0 .1 in
+      record { lawful = w .lawful; pads = same-trans (same-at (w .same-wired)) (S .pads); barred = same-trans (same-at (w .one-less)) (same-without c _ _ (S .barred)) }
+  holds-fed Clear (Err r) P = unchanged (P .1)
+
+pub step-upheld : (m : Meaning) (h : History) → Upholds m h → (c : ℕ) (d e : List Record) (work work′ report report′ : List ℕ) → d ≡ stands m h →
+    (kind : Kind) (r : Result ℕ Refusal) → Performs m kind c d e work work′ report report′ r → Upheld m (event kind c d e work work′ report report′ r) h
+step-upheld m h u c d e work work′ report report′ goes-on kind r P =
+    let S = subst (λ (x : List Record). Standing m x (book h)) (sym goes-on) (standing m h u) in
+    let after = holds-fed m d (book h) S c e work work′ report report′ kind r P in
+    record {
+      goes-on = goes-on;
+      lawful = after .lawful;
+      holds-pads = after .pads;
+      holds-bars = after .barred;
+      numbered = judged m d (book h) S c e work work′ report report′ kind r P;
+      fenced = fenced-by m d (book h) S c e work work′ report report′ kind r P;
+    }
