@@ -7,7 +7,7 @@
  *     ./textbook 64 128          solves from nothing for the first pad, for the first two, and so on
  *     ./textbook 64 128 keep     keeps the flow and looks for one more path for each pad
  *
- * Arguments: the rows of the field, up to 64, and how many pads to place. It shares no code with the router. */
+ * Arguments: the rows of the field, a multiple of 4 up to 64, and how many pads to place. It shares no code with the router. */
 #include <stdio.h>
 #include <stdlib.h>
 #include <string.h>
@@ -18,15 +18,23 @@ static int rows, points, cells, source, sink;
 static int head[MAX_NODES], next_arc[MAX_ARCS], to[MAX_ARCS], room[MAX_ARCS], arcs;
 static int arc_in[MAX_NODES], queue[MAX_NODES];
 
-static int point_at(int column) { return column < 2 ? 1 : column < COLUMNS - 2 ? 0 : 2; }
-static int is_pad(int cell) { return cell < points && point_at(cell % COLUMNS) == 1; }
-static int is_landing(int cell) { return cell >= points && point_at(cell % COLUMNS) == 2; }
+/* 1 for a pad point, 2 for a landing point, 0 for a plain one. */
+static int point_at(int point) {
+    int column = point % COLUMNS, from_pads = point / COLUMNS - rows / 4;
+    if (column == 0 || column == COLUMNS - 1)
+        return 2;
+    int pad_row = from_pads >= 0 && from_pads < 2 * (rows / 4) && from_pads % 2 == 0;
+    return pad_row && column >= 8 && column < 24 && column % 2 == 0;
+}
+
+static int is_pad(int cell) { return cell < points && point_at(cell) == 1; }
+static int is_landing(int cell) { return cell >= points && point_at(cell - points) == 2; }
 static int entrance(int cell) { return 2 * cell; }
 static int leaving(int cell) { return 2 * cell + 1; }
 
 static int pad(int i) {
     int k = i * 37 % (2 * rows);
-    return k / 2 * COLUMNS + k % 2;
+    return (rows / 4 + 2 * (k / 8)) * COLUMNS + 8 + 2 * (k % 8);
 }
 
 static void half_arc(int from, int onto, int units) {
@@ -58,7 +66,7 @@ static void add_cell(int cell) {
         add_step(cell, cell + COLUMNS);
     if (column > 0)
         add_step(cell, cell - 1);
-    if (cell < points && point_at(column) != 0)
+    if (cell < points && point_at(cell) != 0)
         add_step(cell, cell + points);
     if (is_landing(cell))
         add_arc(leaving(cell), sink);
@@ -125,7 +133,7 @@ static int place_and_keep(int count) {
 int main(int argc, char **argv) {
     rows = argc > 1 ? atoi(argv[1]) : 64;
     int count = argc > 2 ? atoi(argv[2]) : 2 * rows;
-    if (rows < 1 || rows > 64 || count < 0 || count > 2 * rows)
+    if (rows < 4 || rows > 64 || rows % 4 != 0 || count < 0 || count > 2 * rows)
         return 1;
     points = rows * COLUMNS;
     cells = 2 * points;

@@ -11,6 +11,9 @@ of disjoint paths, all sets of pads and all sets of cells. Nothing of the router
 A line of the table is one board: its kind, rows, columns and map, the cells that a keep-out closes, a colon, and the cells to be
 placed one after another. For each of these the answer is `ok`, the number of the refusal, or for want of a way 12 with the pads
 and the cells of the fence in rising number, as `12[0 1|5]`.
+
+Besides fields and escape boards there is one ring of six cells, where each cell leads to itself, to the next, to the one before,
+and to the next once more. There outlets lead into pads, and a pad is a landing. Its map only says what its cells are.
 """
 
 import random
@@ -19,38 +22,58 @@ from itertools import combinations
 
 SEED = 20261118
 BOARDS = 240
+RINGS = 40
+RING = [1, 1, 2, 3, 0, 0]
+
+
+def neighbours(rows, columns, layer, point):
+    """The cells beside a point on its layer: north, east, south, west."""
+    row, column = divmod(point, columns)
+    cell = layer * rows * columns + point
+    beside = []
+    if row > 0:
+        beside.append(cell - columns)
+    if column + 1 < columns:
+        beside.append(cell + 1)
+    if row + 1 < rows:
+        beside.append(cell + columns)
+    if column > 0:
+        beside.append(cell - 1)
+    return beside
+
+
+def field(rows, columns, bytes_):
+    points = rows * columns
+    is_pad = [b in (1, 3) for b in bytes_] + [False] * points
+    is_landing = [False] * points + [b in (2, 3) for b in bytes_]
+    outlets = []
+    for cell in range(2 * points):
+        layer, point = divmod(cell, points)
+        down = [cell + points] if layer == 0 and bytes_[point] != 0 else []
+        outlets.append([n for n in neighbours(rows, columns, layer, point) + down if not is_pad[n]])
+    return outlets, is_pad, is_landing
+
+
+def escape(rows, columns, bytes_):
+    points = range(rows * columns)
+    is_pad = [b == 1 for b in bytes_]
+    on_rim = [p // columns in (0, rows - 1) or p % columns in (0, columns - 1) for p in points]
+    outlets = [[n for n in neighbours(rows, columns, 0, p) if not is_pad[n]] for p in points]
+    return outlets, is_pad, [on_rim[p] and not is_pad[p] for p in points]
+
+
+def ring(_rows, _columns, bytes_):
+    outlets = [[c, (c + 1) % 6, (c + 5) % 6, (c + 1) % 6] for c in range(6)]
+    return outlets, [b in (1, 3) for b in bytes_], [b in (2, 3) for b in bytes_]
 
 
 class Board:
     """The cells of a line of the table: their outlets, and which are pads and landings."""
 
     def __init__(self, kind, rows, columns, bytes_, kept):
-        points = rows * columns
-        layers = 2 if kind == "field" else 1
-        self.cells = layers * points
-        is_pad = [b & 1 == 1 for b in bytes_] + [False] * (self.cells - points)
-        if kind == "field":
-            is_landing = [False] * points + [b >= 2 for b in bytes_]
-        else:
-            is_landing = [
-                (p // columns in (0, rows - 1) or p % columns in (0, columns - 1)) and bytes_[p] == 0 for p in range(points)
-            ]
-        outlets = []
-        for cell in range(self.cells):
-            layer, point = divmod(cell, points)
-            row, column = divmod(point, columns)
-            nexts = []
-            if row > 0:
-                nexts.append(cell - columns)
-            if column + 1 < columns:
-                nexts.append(cell + 1)
-            if row + 1 < rows:
-                nexts.append(cell + columns)
-            if column > 0:
-                nexts.append(cell - 1)
-            if kind == "field" and layer == 0 and bytes_[point] != 0:
-                nexts.append(cell + points)
-            outlets.append([n for n in nexts if not is_pad[n]])
+        make = {"field": field, "escape": escape, "ring": ring}[kind]
+        outlets, is_pad, is_landing = make(rows, columns, bytes_)
+        self.cells = len(outlets)
         self.outlets = [[] if c in kept else [n for n in outlets[c] if n not in kept] for c in range(self.cells)]
         self.pads = {c for c in range(self.cells) if is_pad[c] and c not in kept}
         self.landings = {c for c in range(self.cells) if is_landing[c] and c not in kept}
@@ -155,8 +178,8 @@ def shown(answer):
     return str(number)
 
 
-def random_line(rng):
-    """A random board with some of its cells kept out, and a random order of pads, now and then with a wrong number."""
+def random_map(rng):
+    """A random map of a field or an escape board, with at most 7 pads."""
     if rng.random() < 0.65:
         kind = "field"
         rows, columns = rng.choice([(1, 4), (1, 5), (2, 2), (2, 3), (2, 4), (2, 4), (3, 3), (3, 3)])
@@ -165,32 +188,41 @@ def random_line(rng):
         kind = "escape"
         rows, columns = rng.choice([(2, 3), (3, 3), (3, 3), (3, 4), (3, 4), (3, 4), (4, 4)])
         weights = rng.choice([(1, 1), (2, 1), (1, 2), (1, 3)])
-    points = rows * columns
-    digits = rng.choices(range(len(weights)), weights, k=points)
-    pads = [p for p in range(points) if digits[p] & 1]
-    if len(pads) > 7:
-        for p in rng.sample(pads, len(pads) - 7):
-            digits[p] -= 1
-        pads = [p for p in pads if digits[p] & 1]
-    cells = points * (2 if kind == "field" else 1)
+    digits = rng.choices(range(len(weights)), weights, k=rows * columns)
+    pads = [p for p in range(rows * columns) if digits[p] & 1]
+    for p in rng.sample(pads, max(0, len(pads) - 7)):
+        digits[p] -= 1
+    return kind, rows, columns, digits
+
+
+def random_line(rng, kind, rows, columns, digits):
+    """A board with some of its cells kept out, and its pads in a random order, now and then with a wrong number among them."""
+    cells = len(digits) * (2 if kind == "field" else 1)
     kept = sorted(rng.sample(range(cells), rng.choice([0, 0, 0, 1, 1, 2, 3])))
+    pads = [p for p in range(len(digits)) if digits[p] & 1]
     order = pads[:]
     rng.shuffle(order)
     for _ in range(rng.choice([0, 0, 0, 1, 2])):
         wrong = rng.choice([rng.randrange(cells), cells + rng.randrange(3), rng.choice(pads or [0]), 65535])
         order.insert(rng.randrange(len(order) + 1), wrong)
-    text = [kind, str(rows), str(columns), "".join(map(str, digits))]
-    return " ".join(text + [str(c) for c in kept] + [":"] + [str(c) for c in order])
+    head = [kind, rows, columns, "".join(map(str, digits))]
+    return " ".join(map(str, head + kept + [":"] + order))
 
 
 def table():
+    """Different lines, of boards with at least a pad and a landing."""
     rng = random.Random(SEED)
     lines = []
-    while len(lines) < BOARDS:
-        line = random_line(rng)
+
+    def add(line):
         board, order = read(line)
-        if order and board.pads and board.landings:
+        if line not in lines and order and board.pads and board.landings:
             lines.append(line)
+
+    while len(lines) < BOARDS:
+        add(random_line(rng, *random_map(rng)))
+    while len(lines) < BOARDS + RINGS:
+        add(random_line(rng, "ring", 1, 6, RING))
     return lines
 
 

@@ -1,10 +1,12 @@
-// What placing costs: it places pads one after another on a field that they fill.
+// What placing costs: it places pads one after another on a field where every landing is needed.
 //
-// The field has 32 columns. Every row has two pads at its left end and two landings at its right end. With all pads wired no cell
-// is free: a shorter set of wires does not exist, and this one takes every cell. So early wires have to be moved for late ones.
-// Arguments: the rows of the field, up to 64, and how many pads to place. To know what the last place takes, count the
-// instructions of a run with it and of a run without it.
+// The field has 32 columns. The pads stand in its middle, in every second of 16 columns and in every second of the middle half of
+// the rows: twice as many as there are rows. The landings are the points of the first and the last column: just as many. So
+// the wires have to spread, and early ones have to be moved for late ones.
+// Arguments: the rows of the field, a multiple of 4 up to 64, and how many pads to place. To know what the last place takes, count
+// the instructions of a run with it and of a run without it.
 ghost use mathlib.Core.Path.{_≡_};
+ghost use mathlib.Core.Bool.{true};
 ghost use Prim.Native.Nat.{_<_, _≤_};
 use boards::board::Board;
 use boards::field::Field;
@@ -17,24 +19,32 @@ use std::alloc::Global;
 use std::env;
 use std::io;
 
-// What stands at the points of a column: pads in the first two, landings in the last two.
-fn point(column: u16) -> u8
-    ensures pads { λ r. ⌜ (column < 2 → r ≡ 1) ⌝ }
-    ensures landings { λ r. ⌜ (30 ≤ column → r ≡ 2) ⌝ }
-    ensures plain { λ r. ⌜ (2 ≤ column → column < 30 → r ≡ 0) ⌝ }
+// What stands at a point: landings at both ends of a row, and pads between them in the rows that have some.
+fn point(padded: bool, column: u16) -> u8
+    ensures first { λ r. ⌜ (column ≡ 0 → r ≡ 2) ⌝ }
+    ensures last { λ r. ⌜ (column ≡ 31 → r ≡ 2) ⌝ }
+    ensures left { λ r. ⌜ (0 < column → column < 8 → r ≡ 0) ⌝ }
+    ensures right { λ r. ⌜ (23 < column → column < 31 → r ≡ 0) ⌝ }
+    ensures pads { λ r. ⌜ (r ≡ 1 → padded ≡ true) ⌝ }
 {
     match column {
-        0..=1 => 1,
-        2..=29 => 0,
-        _ => 2,
+        0 | 31 => 2,
+        8..=23 if padded && column % 2 == 0 => 1,
+        _ => 0,
     }
+}
+
+// Whether pads stand in the row: in every second one of the middle half.
+fn has_pads(rows: u16, row: u16) -> bool {
+    let start = rows / 4;
+    row >= start && (row - start) / 2 < start && (row - start) % 2 == 0
 }
 
 fn map(heap: Global, rows: u16) -> Result<Vec<u8>, AllocError> {
     let mut bytes = Vec::new(heap);
-    for _ in 0..rows {
+    for row in 0..rows {
         for column in 0..32 {
-            bytes.push(point(column))?;
+            bytes.push(point(has_pads(rows, row), column))?;
         }
     }
     Ok(bytes)
@@ -47,7 +57,8 @@ fn pad(rows: u16, i: u16) -> u16
     requires pads { ⌜ i < 128 ⌝ }
 {
     let k = i * 37 % (2 * rows);
-    k / 2 * 32 + k % 2
+    let row = rows / 4 + 2 * (k / 8);
+    row * 32 + 8 + 2 * (k % 8)
 }
 
 // Places so many pads, and answers how many of them were accepted.

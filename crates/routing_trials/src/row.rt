@@ -5,14 +5,21 @@
 ghost use mathlib.Core.Path.{_≡_};
 ghost use Prim.Native.Nat.{_-_, _<_, _≤_};
 ghost use Rattle.std.specs.declared.option.Option.the-variants.{Some, None};
-use boards::maps::MapKind;
 use std::alloc::AllocError;
 use std::alloc::Global;
 use std::alloc::Refused;
 
+#[derive(Clone, Copy)]
+pub enum Kind {
+    Field,
+    Escape,
+    // The ring of six cells, whatever the map.
+    Ring,
+}
+
 #[derive(Drop)]
 pub struct Row {
-    pub kind: MapKind,
+    pub kind: Kind,
     pub rows: u16,
     pub columns: u16,
     pub bytes: Vec<u8>,
@@ -62,10 +69,11 @@ pub fn read_row(heap: Global, line: &str) -> Result<Row, RowError> {
     })
 }
 
-fn read_kind(word: Option<&str>) -> Result<MapKind, RowError> {
+fn read_kind(word: Option<&str>) -> Result<Kind, RowError> {
     match word {
-        Some("field") => Ok(MapKind::FieldMap),
-        Some("escape") => Ok(MapKind::EscapeMap),
+        Some("field") => Ok(Kind::Field),
+        Some("escape") => Ok(Kind::Escape),
+        Some("ring") => Ok(Kind::Ring),
         _ => Err(RowError::Form),
     }
 }

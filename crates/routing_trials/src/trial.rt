@@ -1,4 +1,5 @@
 // Pads placed one after another, and what each call answers.
+use crate::row::Kind;
 use crate::row::Row;
 use crate::row::RowError;
 use crate::row::read_row;
@@ -9,12 +10,13 @@ use boards::field::Field;
 use boards::field::FieldBoard;
 use boards::keep_out::KeepOut;
 use boards::keep_out::KeepOutBoard;
-use boards::maps::MapKind;
 use drawings::calls::new;
 use drawings::lawful::is_lawful;
 use drawings::records::Record;
 use drawings::records::record_at;
 use drawings::refusals::Refusal;
+use drawings_trials::ring::Ring;
+use drawings_trials::ring::RingBoard;
 use routing::place::place;
 use std::alloc::AllocError;
 use std::alloc::Global;
@@ -38,18 +40,19 @@ fn try_row(heap: Global, row: Row) -> Result<String, AllocError> {
         order,
     } = row;
     match kind {
-        MapKind::FieldMap => try_kept(
+        Kind::Field => try_kept(
             heap,
             KeepOut::new(Field::new(rows, columns, bytes)),
             kept.as_slice(),
             order.as_slice(),
         ),
-        MapKind::EscapeMap => try_kept(
+        Kind::Escape => try_kept(
             heap,
             KeepOut::new(Escape::new(rows, columns, bytes)),
             kept.as_slice(),
             order.as_slice(),
         ),
+        Kind::Ring => try_kept(heap, KeepOut::new(Ring), kept.as_slice(), order.as_slice()),
     }
 }
 
