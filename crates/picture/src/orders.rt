@@ -109,7 +109,7 @@ pub fn labels<B: Board>(
             write(&mut labels, cell, '#');
         } else if record.is_first() {
             label_net(&mut labels, drawing, cell, nets);
-            nets = (nets + 1) % 26;
+            nets = nets.wrapping_add(1);
         }
     }
     Ok(labels)
