@@ -2,7 +2,7 @@
 use mathlib.Core.Path.{_≡_, refl, sym, ap, subst, _∙_}
 use mathlib.Core.Bool.{cond}
 use mathlib.Core.List.{List, _∷_, _++_}
-use Prim.Native.Nat.{ℕ, _<_}
+use Prim.Native.Nat.{ℕ}
 use native.Mathlib.Omega.{arith}
 use Rattle.std.specs.declared.option.Option.{Option}
 use Rattle.std.specs.declared.option.Option.the-variants.{Some, None}
@@ -179,8 +179,8 @@ same-cell : (x y : ℕ × ℕ × ℕ) → Cell x → Cell y → cell-text x ≡ 
 same-cell x y h k e =
     let both = one-cut 32 (decimal (x .0)) (point-text (x .1, x .2)) (decimal (y .0)) (point-text (y .1, y .2)) (number-lacks (x .0) (h .0)) (number-lacks (y .0) (k .0)) e in
     triple-same x y
-      (same-number (x .0) (y .0) (h .0) (k .0) (both .0))
-      (same-numbers (x .1) (x .2) (y .1) (y .2) (h .1, h .2) (k .1, k .2) (both .1))
+    (same-number (x .0) (y .0) (h .0) (k .0) (both .0))
+    (same-numbers (x .1) (x .2) (y .1) (y .2) (h .1, h .2) (k .1, k .2) (both .1))
 
 same-pad : (x y : List ℕ × ℕ × ℕ) → Pad-point x → Pad-point y → pad-text x ≡ pad-text y → x ≡ y
 same-pad x y h k e =
