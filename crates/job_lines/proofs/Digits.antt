@@ -1,21 +1,21 @@
 -- Digits, and the numbers that they write.
-use mathlib.Core.Path.{_≡_, refl, sym, ap, _∙_}
+use mathlib.Core.Path.{_≡_, sym, ap, _∙_}
 use mathlib.Core.Logic.{_⊎_, ⊎-elim}
-use mathlib.Core.List.{List, [], _∷_, _++_}
-use Prim.Native.Nat.{ℕ, _+_, _-_, _*_, _^_, _≤_, _<_}
+use mathlib.Core.List.{List}
+use Prim.Native.Nat.{ℕ, _-_, _≤_, _<_}
 use native.Mathlib.Omega.{arith}
-use lib.ListN.{length, getD, take}
+use lib.ListN.{length, getD}
 use Rattle.std.specs.declared.option.Option.{Option}
 use Rattle.std.specs.declared.option.Option.the-variants.{Some, None}
 use Rattle.std.specs.Options.{Cases}
 use Rattle.std.specs.Reads.{Digits, value}
-use Rattle.std.specs.Text.{In, digitValue}
+use Rattle.std.specs.Text.{digitValue}
 use Rattle.std.specs.Written.{decimal}
 use Rattle.std.proofs.shelf.Decimals.{length-decimal-le, decimal-some, first-decimal, digits-decimal, decimal-value}
-use Rattle.std.proofs.shelf.Numerals.{Numerals, numerals-by-value, tells-digits, value-short, digit-at}
+use Rattle.std.proofs.shelf.Numerals.{Numerals, numerals-by-value, tells-digits, value-short}
 use Rattle.std.proofs.shelf.Tests.{cases-eq}
 use Rattle.std.proofs.shelf.Ways.{tells}
-use Rattle.job_lines.specs.Words.{Number, Reads, Lacks}
+use Rattle.job_lines.specs.Words.{Number, Reads}
 
 pub own : Numerals (Digits 10) (value 10)
 own = numerals-by-value (Digits 10) tells-digits

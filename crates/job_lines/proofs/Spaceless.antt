@@ -6,12 +6,10 @@ use mathlib.Core.List.{List, [], _∷_}
 use Prim.Native.Nat.{ℕ}
 use native.Mathlib.Omega.{arith}
 use lib.Dec.{eqb}
-use lib.ListN.{length, getD}
 use Rattle.std.specs.Written.{decimal}
 use Rattle.std.proofs.shelf.Decimals.{digits-decimal}
 use Rattle.std.proofs.shelf.Elements.{all-from-getD, all-weaker}
 use Rattle.std.proofs.shelf.Numerals.{digit-at}
-use Rattle.std.proofs.shelf.Ways.{tells}
 use Rattle.std.proofs.shelf.Tests.{and-parts, not-true, eqb-false}
 use Rattle.job_lines.specs.declared.verb.Verb.{Verb}
 use Rattle.job_lines.specs.declared.verb.Verb.the-variants.{Field, Escape, Pad, Land, Keep, Place, Lift, Bar, Clear, Show}

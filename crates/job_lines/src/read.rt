@@ -1,7 +1,4 @@
 // Reading a line: its verb, and what follows the verb by the verb's form.
-ghost use mathlib.Core.Path.{_≡_};
-ghost use mathlib.Core.List.{List};
-ghost use denote.Ref.{RefT};
 ghost use Rattle.std.specs.Options.{mapped};
 ghost use Rattle.job_lines.specs.Words.{Name, Reads};
 ghost use Rattle.job_lines.specs.Grammar.{Reads-line, Spellings-differ};

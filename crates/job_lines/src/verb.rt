@@ -1,6 +1,4 @@
 // The first word of a line.
-ghost use mathlib.Core.Path.{_≡_};
-ghost use mathlib.Core.List.{List};
 ghost use Rattle.job_lines.specs.Words.{Reads};
 ghost use Rattle.job_lines.specs.Verbs.{Any-verb, keyword};
 use crate::words::same;

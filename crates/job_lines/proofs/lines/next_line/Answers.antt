@@ -1,5 +1,5 @@
 use native.Mathlib.Omega.{arith}
-use mathlib.Core.Path.{_≡_, _∙_}
+use mathlib.Core.Path.{_∙_}
 use lib.ListN.{length}
 use lib.Seq.{take-all}
 use Rattle.std.proofs.shelf.Lists.{drop-all, nil-from-length}

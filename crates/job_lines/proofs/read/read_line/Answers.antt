@@ -1,4 +1,4 @@
-use mathlib.Core.Path.{_≡_, _∙_}
+use mathlib.Core.Path.{_∙_}
 use Rattle.job_lines.proofs.Cuts.{no-cut, same-parts}
 use Rattle.job_lines.proofs.Forms.{spelled-is, line-read}
 use Rattle.job_lines.proofs.Spaceless.{keyword-lacks}

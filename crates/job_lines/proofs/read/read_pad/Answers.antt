@@ -1,4 +1,3 @@
-use mathlib.Core.Path.{_≡_}
 use Rattle.job_lines.proofs.Cuts.{no-cut, same-parts}
 use Rattle.job_lines.proofs.Spaceless.{name-lacks}
 use Rattle.job_lines.proofs.read.read_pad.Needs as need

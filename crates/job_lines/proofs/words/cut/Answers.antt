@@ -1,9 +1,6 @@
-use mathlib.Core.Path.{_≡_, sym, ap, _∙_}
-use mathlib.Core.List.{List, _∷_, _++_}
-use Prim.Native.Nat.{ℕ}
+use mathlib.Core.Path.{_≡_}
 use lib.Seq.{take-all}
 use Rattle.std.proofs.shelf.Elements.{all-more}
-use Rattle.job_lines.specs.Words.{Lacks}
 use Rattle.job_lines.proofs.Cuts.{cut-here}
 use Rattle.job_lines.proofs.words.cut.Needs as need
 

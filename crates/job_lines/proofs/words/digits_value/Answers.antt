@@ -1,10 +1,7 @@
-use mathlib.Core.Path.{_≡_, refl, sym, ap, _∙_}
-use mathlib.Core.Logic.{⊎-elim}
-use Prim.Native.Nat.{ℕ, _+_, _-_, _*_, _≤_, _<_}
+use Prim.Native.Nat.{_-_, _≤_, _<_}
 use native.Mathlib.Omega.{arith}
 use lib.ListN.{length, take, getD, length-take}
 use lib.Seq.{take-all}
-use Rattle.std.specs.Reads.{Digits, value}
 use Rattle.std.specs.Text.{digitValue}
 use Rattle.std.proofs.shelf.Digits.{digits-more, value-more}
 use Rattle.std.proofs.shelf.Numerals.{digit-at, value-short}
