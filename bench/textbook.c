@@ -6,6 +6,7 @@
  *     cc -O3 -o textbook bench/textbook.c
  *     ./textbook 64 128          solves from nothing for the first pad, for the first two, and so on
  *     ./textbook 64 128 keep     keeps the flow and looks for one more path for each pad
+ *     ./textbook 64 128 stay     does so without ever moving a path that was found before
  *
  * Arguments: the rows of the field, a multiple of 4 up to 64, and how many pads to place. It shares no code with the router. */
 #include <stdio.h>
@@ -17,6 +18,7 @@ enum { COLUMNS = 32, MAX_POINTS = 2048, MAX_CELLS = 2 * MAX_POINTS, MAX_NODES = 
 static int rows, points, cells, source, sink;
 static int head[MAX_NODES], next_arc[MAX_ARCS], to[MAX_ARCS], room[MAX_ARCS], arcs;
 static int arc_in[MAX_NODES], queue[MAX_NODES];
+static int may_move = 1;
 
 /* 1 for a pad point, 2 for a landing point, 0 for a plain one. */
 static int point_at(int point) {
@@ -97,7 +99,7 @@ static int augment(void) {
         return 0;
     for (int node = sink; node != source; node = to[arc_in[node] ^ 1]) {
         room[arc_in[node]]--;
-        room[arc_in[node] ^ 1]++;
+        room[arc_in[node] ^ 1] += may_move;
     }
     return 1;
 }
@@ -139,7 +141,9 @@ int main(int argc, char **argv) {
     cells = 2 * points;
     source = 2 * cells;
     sink = source + 1;
-    int placed = argc > 3 && strcmp(argv[3], "keep") == 0 ? place_and_keep(count) : place_from_nothing(count);
+    const char *mode = argc > 3 ? argv[3] : "";
+    may_move = strcmp(mode, "stay") != 0;
+    int placed = *mode ? place_and_keep(count) : place_from_nothing(count);
     printf("%d cells, %d of %d pads placed\n", cells, placed, count);
     return 0;
 }
