@@ -1,11 +1,11 @@
 -- Lists in which nothing stands twice.
-use mathlib.Core.Path.{_≡_, refl, sym, ap, subst, _∙_}
+use mathlib.Core.Path.{_≡_, refl, ap, _∙_}
 use mathlib.Core.List.{List, [], _∷_, _++_, map}
-use mathlib.Core.Logic.{_⊎_, inl, inr}
+use mathlib.Core.Logic.{inl, inr}
 use Prim.Native.Nat.{ℕ}
 use Rattle.linkages.specs.Lists.{Mem, here, there, Distinct}
-use Rattle.linkages.proofs.Members.{mem-none, mem-at, mem-map, mem-of-map}
-use Rattle.drawings.proofs.Members.{mem-append-right, mem-append-cases}
+use Rattle.linkages.proofs.Members.{mem-at, mem-map, mem-of-map}
+use Rattle.drawings.proofs.Members.{mem-append-cases}
 use Rattle.layouts.specs.Layouts.{Different}
 
 pub mem-append-left : {E : Type 0} {c : E} {xs : List E} (ys : List E) → Mem c xs → Mem c (xs ++ ys)
@@ -49,10 +49,6 @@ different-map f (x ∷ xs) one d = (
 pub map-alike : {E F : Type 0} (f g : E → F) (xs : List E) → ((x : E) → Mem x xs → f x ≡ g x) → map f xs ≡ map g xs
 map-alike f g [] e = refl
 map-alike f g (x ∷ xs) e = ap (λ y. y ∷ map f xs) (e x (here refl)) ∙ ap (λ ys. g x ∷ ys) (map-alike f g xs (λ y m. e y (there m)))
-
-pub map-twice : {E F G : Type 0} (g : F → G) (f : E → F) (xs : List E) → map g (map f xs) ≡ map (λ x. g (f x)) xs
-map-twice g f [] = refl
-map-twice g f (x ∷ xs) = ap (λ ys. g (f x) ∷ ys) (map-twice g f xs)
 
 pub map-back : {E F : Type 0} (g : F → E) (f : E → F) (xs : List E) → ((x : E) → Mem x xs → g (f x) ≡ x) → map g (map f xs) ≡ xs
 map-back g f [] e = refl

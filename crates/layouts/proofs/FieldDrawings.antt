@@ -1,44 +1,43 @@
 -- A lawful drawing of a field reads as a legal layout.
 use mathlib.Core.Path.{_≡_, refl, sym, ap, subst, _∙_}
 use mathlib.Core.Bool.{Bool, true, false}
-use mathlib.Core.List.{List, [], _∷_, map}
-use mathlib.Core.Logic.{_⊎_, inl, inr}
+use mathlib.Core.List.{List, map}
+use mathlib.Core.Logic.{inl, inr}
 use Prim.Native.Nat.{ℕ, _*_, _<_}
 use lib.Dec.{eqb}
 use lib.ListN.{length, getD}
 use Rattle.std.specs.declared.option.Option.the-variants.{Some}
-use Rattle.std.proofs.shelf.Tests.{both-ways, and-parts, eqb-true, eq-eqb}
+use Rattle.std.proofs.shelf.Tests.{both-ways, and-parts, eqb-true}
 use Rattle.boards.specs.declared.maps.MapKind.the-variants.{FieldMap}
 use Rattle.boards.specs.declared.place.Place.{Place}
-use Rattle.boards.specs.Meaning.{Meaning, pad-at, landing-at}
+use Rattle.boards.specs.Meaning.{landing-at}
 use Rattle.boards.specs.Places.{nowhere}
 use Rattle.boards.specs.Grids.{On-grid, place-of, cell-of, grid-places}
 use Rattle.boards.specs.Maps.{Sides-allowed, pad-point, byte-at, pad-place}
-use Rattle.boards.specs.Fields.{field, field-landing}
+use Rattle.boards.specs.Fields.{field}
 use Rattle.boards.proofs.Meanings.{made-in}
 use Rattle.boards.proofs.Accepted.{accepted-sides}
 use Rattle.boards.proofs.Grids.{place-on-grid, cell-of-place}
-use Rattle.linkages.specs.Lists.{Mem, here, there, Distinct, Next}
-use Rattle.linkages.specs.Nets.{first-of}
+use Rattle.linkages.specs.Lists.{Mem}
 use Rattle.linkages.proofs.Members.{mem-at, mem-map, mem-of-map}
 use Rattle.drawings.specs.declared.records.Record.{Record}
 use Rattle.drawings.specs.Records.{record-at}
 use Rattle.drawings.specs.Nets.{after-at, net-at, first-at, last-at, barred-at, wired, bars, net, Runs, ends, goes}
 use Rattle.drawings.specs.Lawful.{Lawful}
-use Rattle.drawings.proofs.Cells.{kept-below, below-kept}
+use Rattle.drawings.proofs.Cells.{kept-below}
 use Rattle.drawings.proofs.Said.{first-net, last-net, after-net, net-unbarred, net-inside}
-use Rattle.drawings.proofs.Follow.{run-net, run-distinct, net-runs, nets-apart}
+use Rattle.drawings.proofs.Follow.{run-net, run-distinct, nets-apart}
 use Rattle.drawings.proofs.Linking.{run-begins, next-after, wired-runs}
 use Rattle.layouts.specs.declared.wires.Point.{Point}
 use Rattle.layouts.specs.declared.wires.Layer.{Layer}
 use Rattle.layouts.specs.declared.wires.Layer.the-variants.{Top, Bottom}
-use Rattle.layouts.specs.Layouts.{Course, Wire, Wire-of, Legal, Different, Pad-point, On-map, on-layer, places-on, firsts, lasts, occupied}
+use Rattle.layouts.specs.Layouts.{Course, Wire, Wire-of, Legal, Different, on-layer, places-on, firsts, lasts, occupied}
 use Rattle.layouts.specs.Readings.{point-of, wire-through, places-of, reading, layout-of}
-use Rattle.layouts.specs.Theorems.{top-cell, point-at, Field-map, Reads, Drawings-are-layouts}
+use Rattle.layouts.specs.Theorems.{top-cell, point-at, Reads, Drawings-are-layouts}
 use Rattle.layouts.proofs.Laying.{first-or-next}
 use Rattle.layouts.proofs.Differences.{distinct-to, different-left, different-right, different-unmap, different-map, map-alike, map-back}
 use Rattle.layouts.proofs.Moves.{Move, along, down, place-eq, pad-is, landing-is, outlet-move}
-use Rattle.layouts.proofs.Trails.{Trail, lands, moves, Ran, Read, trail-reads}
+use Rattle.layouts.proofs.Trails.{Trail, lands, moves, Read, trail-reads}
 
 -- a wire has different points if it occupies different places
 pub different-points : (w : Wire) → Different (occupied w) → Different (w .points)
@@ -182,6 +181,7 @@ module _ (R C : ℕ) (bytes : List ℕ) (sides : Sides-allowed R C) where
     pub reads : Reads R C bytes d
     reads = record {
       legal = legal;
+      read = λ c i. ap (reading (grid-places 2 R C) d) (pad-back c (wired-pad c i));
       occupies = λ c i. ap (map (cell-of R C)) (occupies c i) ∙ map-back (cell-of R C) (place-of R C) (net d c) (λ x _. cell-of-place R C (sides .0) (sides .2) x);
     }
 

@@ -7,11 +7,10 @@ use Prim.Native.Nat.{ℕ, _*_, _≤_, _<_}
 use native.Mathlib.Omega.{arith}
 use native.Mathlib.Decide.{ℕ-discrete}
 use Rattle.std.proofs.shelf.Bits.{mul-le}
-use Rattle.std.proofs.shelf.Tests.{or-left, or-right, both-ways}
-use Rattle.std.proofs.shelf.Lists.{map-append}
+use Rattle.std.proofs.shelf.Tests.{or-left, or-right}
 use Rattle.boards.specs.declared.maps.MapKind.the-variants.{FieldMap}
 use Rattle.boards.specs.declared.place.Place.{Place}
-use Rattle.boards.specs.Meaning.{Meaning, Bounded, pad-at, landing-at}
+use Rattle.boards.specs.Meaning.{Meaning, Bounded, pad-at}
 use Rattle.boards.specs.Grids.{On-grid, place-of, cell-of}
 use Rattle.boards.specs.Maps.{Sides-allowed, pad-place, pad-point, landing-point, byte-at}
 use Rattle.boards.specs.Fields.{field, field-steps, field-landing}
@@ -19,36 +18,29 @@ use Rattle.boards.proofs.Accepted.{accepted-sides}
 use Rattle.boards.proofs.Grids.{cell-below, place-of-cell}
 use Rattle.boards.proofs.MapBoards.{map-bounded}
 use Rattle.linkages.specs.Lists.{Mem, here, there, Distinct}
-use Rattle.linkages.specs.Paths.{Landing, Unbarred, Walk, stop, step, Path, Linkage, upto-landing}
+use Rattle.linkages.specs.Paths.{Landing, Unbarred, Walk, stop, step, Linkage, upto-landing}
 use Rattle.linkages.proofs.Members.{mem-none, mem-cases, mem-at, mem-map, mem-of-map}
-use Rattle.linkages.proofs.Walks.{walk-first}
 use Rattle.drawings.specs.declared.records.Record.{Record}
 use Rattle.drawings.specs.Nets.{last-of}
 use Rattle.drawings.proofs.Members.{mem-append-right, mem-append-cases}
 use Rattle.layouts.specs.declared.wires.Point.{Point}
 use Rattle.layouts.specs.declared.wires.Layer.{Layer}
 use Rattle.layouts.specs.declared.wires.Layer.the-variants.{Top, Bottom}
-use Rattle.layouts.specs.Layouts.{Course, stops, steps, Wire, Wire-of, Legal, Different, Pad-point, Landing-point, On-map, on-layer, places-on, firsts, lasts, occupied}
+use Rattle.layouts.specs.Layouts.{Course, stops, steps, Wire, Legal, Different, Pad-point, Landing-point, On-map, on-layer, places-on, firsts, lasts, occupied}
 use Rattle.layouts.specs.Readings.{point-of}
 use Rattle.layouts.specs.Theorems.{top-cell, point-at, Draws, Layouts-are-drawings}
 use Rattle.layouts.proofs.Differences.{mem-append-left, distinct-from, different-append, different-map}
-use Rattle.layouts.proofs.Moves.{Move, along, down, pad-is, landing-is, move-outlet}
+use Rattle.layouts.proofs.Moves.{point-eq, along, down, pad-is, landing-is, move-outlet}
 use Rattle.layouts.proofs.Trails.{course-firsts, course-lasts}
 use Rattle.layouts.proofs.Linkages.{linkages-draw}
 
 -- ---- points
 
-abbrev at-point : ℕ → ℕ → Point
-at-point r c = record { row = r; column = c }
-
 point-discrete : (p q : Point) → Dec (p ≡ q)
 point-discrete p q = go (ℕ-discrete (p .row) (q .row)) (ℕ-discrete (p .column) (q .column))
   where
-    same : {r c r′ c′ : ℕ} → r ≡ r′ → c ≡ c′ → at-point r c ≡ at-point r′ c′
-    same e f = cc
-
     go : Dec (p .row ≡ q .row) → Dec (p .column ≡ q .column) → Dec (p ≡ q)
-    go (yes e) (yes f) = yes (same e f)
+    go (yes e) (yes f) = yes (point-eq p q e f)
     go (no n) d = no (λ e. n (ap (λ (x : Point). x .row) e))
     go (yes e) (no n) = no (λ f. n (ap (λ (x : Point). x .column) f))
 

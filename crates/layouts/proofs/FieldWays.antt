@@ -1,8 +1,8 @@
 -- Pads of a field can be met exactly if there is a legal layout of them.
-use mathlib.Core.Path.{_≡_, refl, sym, ap, subst, _∙_}
+use mathlib.Core.Path.{_≡_, sym, _∙_}
 use mathlib.Core.Bool.{true}
 use mathlib.Core.List.{List, map}
-use Prim.Native.Nat.{ℕ, _*_, _<_}
+use Prim.Native.Nat.{ℕ, _<_}
 use Rattle.boards.specs.declared.maps.MapKind.the-variants.{FieldMap}
 use Rattle.boards.specs.declared.place.Place.{Place}
 use Rattle.boards.specs.Meaning.{pad-at}

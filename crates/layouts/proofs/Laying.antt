@@ -1,6 +1,6 @@
 -- Lists of cells laid as nets, one after the other.
 use mathlib.Core.Path.{_≡_, refl, sym, ap, subst, _∙_}
-use mathlib.Core.Bool.{Bool, true, false}
+use mathlib.Core.Bool.{true, false}
 use mathlib.Core.List.{List, [], _∷_}
 use mathlib.Core.Logic.{_⊎_, inl, inr}
 use Prim.Native.Nat.{ℕ, _<_}
@@ -8,15 +8,19 @@ use lib.ListN.{length, set}
 use Rattle.std.specs.declared.option.Option.{Option}
 use Rattle.std.specs.declared.option.Option.the-variants.{Some, None}
 use Rattle.std.proofs.shelf.Lists.{getD-set-same, length-set}
+use Rattle.std.proofs.shelf.Tests.{false≢true}
+use Rattle.boards.specs.Meaning.{Meaning}
 use Rattle.linkages.specs.Lists.{Mem, here, there, Distinct, Disjoint, Next, begins, goes-on}
 use Rattle.linkages.specs.Nets.{first-of, OffNets}
-use Rattle.linkages.proofs.Members.{mem-none, mem-at, mem-each}
+use Rattle.linkages.proofs.Members.{mem-none, mem-each}
 use Rattle.drawings.specs.declared.records.Record.{Record}
 use Rattle.drawings.specs.declared.records.Record.the-variants.{Free, Barred, Net}
 use Rattle.drawings.specs.Records.{before-of, after-of, is-net, is-first, is-last, record-at}
-use Rattle.drawings.specs.Nets.{before-at, after-at, first-at, Runs, ends, goes}
+use Rattle.drawings.specs.Nets.{before-at, first-at, Runs, ends, goes}
 use Rattle.drawings.specs.Changes.{head-of, laid, laid-after}
-use Rattle.drawings.proofs.Changed.{set-other}
+use Rattle.drawings.specs.Lawful.{Local}
+use Rattle.drawings.proofs.Said.{none-not-some}
+use Rattle.drawings.proofs.Locals.{local-free}
 use Rattle.drawings.proofs.Relaying.{laid-outside}
 
 -- the cells of the list lie as one net, and the first names b before it
@@ -92,3 +96,17 @@ laid-all-lie (ys ∷ xss) d j u f xs m =
     (λ k m. laid-all-outside xss (laid ys d) k (λ zs i h. j .0 zs k i m h)))
     (laid-all-lie xss (laid ys d) (j .1) (λ xs m. u xs (there m)) (λ xs k m h. subst (λ n. k < n) (sym (laid-length None ys d)) (f xs k (there m) h)))
     xs m
+
+-- ---- cells on no net keep the rules
+
+pub local-off : (m : Meaning) (d : List Record) (c : ℕ) (r : Record) → record-at d c ≡ r → is-net r ≡ false → Local m d c
+local-off m d c Free e n = local-free m d c e
+local-off m d c Barred e n = record {
+  first-is-pad = λ p. absurd (false≢true (sym (ap is-first e) ∙ p));
+  last-is-landing = λ p. absurd (false≢true (sym (ap is-last e) ∙ p));
+  landing-is-last = λ p l. absurd (false≢true (sym (ap is-net e) ∙ p));
+  after-is-outlet = λ t p. absurd (none-not-some (sym (ap after-of e) ∙ p));
+  after-names-back = λ t p. absurd (none-not-some (sym (ap after-of e) ∙ p));
+  before-names-on = λ s p. absurd (none-not-some (sym (ap before-of e) ∙ p));
+}
+local-off m d c (Net b a) e n = absurd (false≢true (sym n))

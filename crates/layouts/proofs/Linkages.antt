@@ -1,45 +1,36 @@
 -- Every linkage has a lawful drawing.
 use mathlib.Core.Path.{_≡_, refl, sym, ap, subst, _∙_}
-use mathlib.Core.Bool.{Bool, true, false, cond}
-use mathlib.Core.List.{List, [], _∷_, map}
+use mathlib.Core.Bool.{Bool, true, false}
+use mathlib.Core.List.{List, [], map}
 use mathlib.Core.Logic.{_⊎_, inl, inr}
 use Prim.Native.Nat.{ℕ, _<_}
-use native.Mathlib.Omega.{arith}
 use lib.ListN.{length}
 use Rattle.std.specs.shelf.Lists.{kept-by}
 use Rattle.std.specs.Iters.{counting}
-use Rattle.std.specs.declared.option.Option.{Option}
 use Rattle.std.specs.declared.option.Option.the-variants.{Some, None}
 use Rattle.std.proofs.shelf.Counted.{length-map-counting}
-use Rattle.std.proofs.shelf.Tests.{both-ways, false≢true, cases-lt}
-use Rattle.std.proofs.shelf.Lists.{getD-past}
+use Rattle.std.proofs.shelf.Tests.{both-ways, false≢true}
 use Rattle.boards.specs.Meaning.{Meaning, Bounded, pad-at, landing-at, outlets-of}
 use Rattle.boards.proofs.Meanings.{made-in}
-use Rattle.linkages.specs.Lists.{Mem, here, there, Within, Same, Distinct, Disjoint, Next, begins, goes-on}
+use Rattle.linkages.specs.Lists.{Mem, here, there, Distinct, Disjoint, Next, begins, goes-on}
 use Rattle.linkages.specs.Paths.{Landing, Unbarred, Walk, stop, step, Path, Linkage, Lands-once, upto-landing}
 use Rattle.linkages.specs.Nets.{first-of, OffNets}
-use Rattle.linkages.proofs.Members.{mem-none, mem-cases, mem-at, mem-map, mem-of-map, dec-mem, held-or-not}
+use Rattle.linkages.proofs.Members.{mem-none, mem-at, mem-map, mem-of-map, dec-mem, held-or-not}
 use Rattle.linkages.proofs.Pigeons.{disjoint-paths}
-use Rattle.linkages.proofs.Walks.{walk-first, walk-unbarred, upto-landing-front, front-within, truncated}
+use Rattle.linkages.proofs.Walks.{walk-unbarred, upto-landing-front, front-within, truncated}
 use Rattle.linkages.proofs.OnBoard.{paths-stay-on-board}
 use Rattle.drawings.specs.declared.records.Record.{Record}
 use Rattle.drawings.specs.declared.records.Record.the-variants.{Free, Barred, Net}
 use Rattle.drawings.specs.Records.{before-of, after-of, is-net, is-first, is-last, is-barred, record-at}
-use Rattle.drawings.specs.Nets.{before-at, after-at, net-at, first-at, last-at, barred-at, wired, bars, net, Runs}
+use Rattle.drawings.specs.Nets.{after-at, net-at, first-at, barred-at, wired, bars, net, Runs}
 use Rattle.drawings.specs.Lawful.{Local, Lawful}
 use Rattle.drawings.proofs.Cells.{kept-below, below-kept, distinct-kept-below}
-use Rattle.drawings.proofs.Said.{none-not-some, some-same, before-net, after-net, first-net, last-net, net-last, net-inside}
+use Rattle.drawings.proofs.Said.{some-same, before-net, after-net, first-net, net-inside, barred-off}
 use Rattle.drawings.proofs.Locals.{local-everywhere}
-use Rattle.drawings.proofs.Follow.{run-first, run-net, net-run, net-reached}
+use Rattle.drawings.proofs.Follow.{run-net, net-run, net-reached}
 use Rattle.drawings.proofs.Linking.{next-after, after-next}
 use Rattle.layouts.specs.Theorems.{Lays, Linkages-draw}
-use Rattle.layouts.proofs.Laying.{Lies, lies-runs, lies-begins, lies-before, first-or-next, laid-all, laid-all-length, laid-all-outside, laid-all-lie}
-
--- a barred cell is on no net
-barred-off : (r : Record) → is-barred r ≡ true → is-net r ≡ false
-barred-off Free e = refl
-barred-off Barred e = refl
-barred-off (Net b a) e = absurd (false≢true e)
+use Rattle.layouts.proofs.Laying.{Lies, lies-runs, lies-begins, lies-before, first-or-next, laid-all, laid-all-length, laid-all-outside, laid-all-lie, local-off}
 
 walk-next : {m : Meaning} {bars : List ℕ} {z a u t : ℕ} {xs : List ℕ} → Walk m bars z a xs → Next u t xs → Mem t (outlets-of m u)
 walk-next (stop f e) (goes-on n) = elim n [ ]
@@ -80,10 +71,10 @@ bar-or-free : {P : Type 0} → Dec P → Record
 bar-or-free (yes h) = Barred
 bar-or-free (no n) = Free
 
-bar-off : {P : Type 0} (x : Dec P) → (before-of (bar-or-free x) ≡ None) × (after-of (bar-or-free x) ≡ None) × (is-net (bar-or-free x) ≡ false) × (is-first (bar-or-free x) ≡ false) × (is-last (bar-or-free x) ≡ false)
+bar-off : {P : Type 0} (x : Dec P) → is-net (bar-or-free x) ≡ false
 unfolding bar-or-free
-bar-off (yes h) = (refl, refl, refl, refl, refl)
-bar-off (no n) = (refl, refl, refl, refl, refl)
+bar-off (yes h) = refl
+bar-off (no n) = refl
 
 bar-is : {P : Type 0} (x : Dec P) → is-barred (bar-or-free x) ≡ true → P
 unfolding bar-or-free
@@ -230,17 +221,7 @@ module _ (m : Meaning) (barred pads : List ℕ) (B : Bounded m) (inside : (c : �
 
   -- and off the nets
   off-course : (c : ℕ) → OffNets nets c → c < m .cells → Local m d c
-  off-course c n h =
-      let r = d-off c n h in
-      let o = bar-off (dec-mem c barred) in
-      record {
-        first-is-pad = λ p. absurd (both-ways (first-at d c) (ap is-first r ∙ o .3) p);
-        last-is-landing = λ p. absurd (both-ways (last-at d c) (ap is-last r ∙ o .4) p);
-        landing-is-last = λ p l. absurd (both-ways (net-at d c) (ap is-net r ∙ o .2) p);
-        after-is-outlet = λ t e. absurd (none-not-some (sym (ap after-of r ∙ o .1) ∙ e));
-        after-names-back = λ t e. absurd (none-not-some (sym (ap after-of r ∙ o .1) ∙ e));
-        before-names-on = λ s e. absurd (none-not-some (sym (ap before-of r ∙ o .0) ∙ e));
-      }
+  off-course c n h = local-off m d c (bar-or-free (dec-mem c barred)) (d-off c n h) (bar-off (dec-mem c barred))
 
   d-cell : (c : ℕ) → c < length d → c < m .cells
   d-cell c h = subst (λ n. c < n) d-length h
@@ -258,7 +239,7 @@ module _ (m : Meaning) (barred pads : List ℕ) (B : Bounded m) (inside : (c : �
   net-on : (c : ℕ) → net-at d c ≡ true → (q : ℕ) × Mem q pads × Mem c (course q)
   net-on c h = elim (held-or-not nets c) [
     | inl t ↦ (let p = pad-of (t .0) (t .1) in (p .0, p .1, subst (Mem c) (p .2) (t .2)))
-    | inr n ↦ absurd (both-ways (net-at d c) (ap is-net (d-off c n (d-cell c (net-inside d c h))) ∙ bar-off (dec-mem c barred) .2) h)
+    | inr n ↦ absurd (both-ways (net-at d c) (ap is-net (d-off c n (d-cell c (net-inside d c h))) ∙ bar-off (dec-mem c barred)) h)
   ]
 
   d-lawful : Lawful m d

@@ -2,16 +2,15 @@
 use mathlib.Core.Path.{_≡_, refl, sym, ap, subst, _∙_}
 use mathlib.Core.Bool.{Bool, true, false, not, _&&_, _||_}
 use mathlib.Core.List.{List, [], _∷_, map}
-use mathlib.Core.Logic.{_⊎_, inl, inr}
-use Prim.Native.Nat.{ℕ, _+_, _-_, _*_, _≤_, _<_}
+use mathlib.Core.Logic.{inl, inr}
+use Prim.Native.Nat.{ℕ, _+_, _*_, _<_}
 use native.Mathlib.Omega.{arith}
-use lib.Dec.{ltb, eqb}
 use Rattle.std.specs.declared.option.Option.{Option}
 use Rattle.std.specs.declared.option.Option.the-variants.{Some, None}
 use Rattle.std.proofs.shelf.Tests.{and-parts, not-true, lt-ltb}
 use Rattle.boards.specs.declared.place.Place.{Place}
 use Rattle.boards.specs.declared.place.Step.{Step}
-use Rattle.boards.specs.declared.place.Step.the-variants.{North, East, South, West, Down, Up}
+use Rattle.boards.specs.declared.place.Step.the-variants.{North, East, South, West, Down}
 use Rattle.boards.specs.Meaning.{Meaning, when, outlets-of, pad-at, landing-at}
 use Rattle.boards.specs.Places.{Leads}
 use Rattle.boards.specs.Grids.{On-grid, place-of, cell-of, beside}
@@ -21,7 +20,7 @@ use Rattle.boards.proofs.Lists.{when-some, when-true}
 use Rattle.boards.proofs.Meanings.{made-in}
 use Rattle.boards.proofs.Grids.{place-on-grid, cell-below, place-of-cell, beside-leads}
 use Rattle.linkages.specs.Lists.{Mem, here, there}
-use Rattle.linkages.proofs.Members.{mem-none, mem-map}
+use Rattle.linkages.proofs.Members.{mem-none}
 use Rattle.layouts.specs.declared.wires.Point.{Point}
 use Rattle.layouts.specs.Layouts.{Neighbours, on-layer}
 use Rattle.layouts.specs.Readings.{point-of}
@@ -35,6 +34,15 @@ same-place e f g = cc
 pub place-eq : (p q : Place) → p .layer ≡ q .layer → p .row ≡ q .row → p .column ≡ q .column → p ≡ q
 place-eq p q e f g = same-place e f g
 
+abbrev at-point : ℕ → ℕ → Point
+at-point r c = record { row = r; column = c }
+
+same-point : {r c r′ c′ : ℕ} → r ≡ r′ → c ≡ c′ → at-point r c ≡ at-point r′ c′
+same-point e f = cc
+
+pub point-eq : (p q : Point) → p .row ≡ q .row → p .column ≡ q .column → p ≡ q
+point-eq p q e f = same-point e f
+
 -- a move leads to a neighbour on the same layer that holds no pad, or from layer 1 down to layer 2 at a pad point or a landing point
 pub data Move (C : ℕ) (bytes : List ℕ) (p q : Place) : Type 0 where
   along : q .layer ≡ p .layer → Neighbours (point-of p) (point-of q) → pad-place C bytes q ≡ false → Move C bytes p q
@@ -45,7 +53,7 @@ pub data Move (C : ℕ) (bytes : List ℕ) (p q : Place) : Type 0 where
 some-one : {x y : ℕ} → Some x ≡ Some y → x ≡ y
 some-one e = cc
 
-no-some : {X : Type 0} {x : ℕ} → Some x ≡ None → X
+pub no-some : {X Y : Type 0} {x : X} → Some x ≡ None → Y
 no-some e = let z : _≡_ {A = ℕ} 0 1 = cc in let n : ⊥ = omega arith in absurd n
 
 of-somes : (d : ℕ) (xs : List (Option ℕ)) → Mem d (somes xs) → Mem (Some d) xs

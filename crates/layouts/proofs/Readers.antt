@@ -1,5 +1,5 @@
 -- Reading a net cell by cell.
-use mathlib.Core.Path.{_≡_, refl, sym, ap, subst, _∙_}
+use mathlib.Core.Path.{_≡_, refl, sym, ap, _∙_}
 use mathlib.Core.Bool.{Bool, true, false, cond}
 use mathlib.Core.List.{List, [], _∷_, _++_, map}
 use mathlib.Core.Logic.{inl, inr}
@@ -24,14 +24,12 @@ use Rattle.layouts.specs.declared.wires.Point.{Point}
 use Rattle.layouts.specs.declared.wires.Layer.{Layer}
 use Rattle.layouts.specs.declared.wires.Layer.the-variants.{Top, Bottom}
 use Rattle.layouts.specs.Layouts.{layer-number}
+use Rattle.layouts.proofs.Moves.{no-some}
 use Rattle.layouts.specs.Readings.{point-of, right-below, lies-on, points-on, places-of, points-written, Read-refused}
-
-some-not-none : {X : Type 0} {x : X} {Y : Type 0} → Some x ≡ None → Y
-some-not-none e = let z : _≡_ {A = ℕ} 0 1 = cc in let n : ⊥ = omega arith in absurd n
 
 -- a number that has no place
 pub place-none : (ps : List Place) (c : ℕ) → place-at ps c ≡ None → getD ps c nowhere ≡ nowhere
-place-none ps c e = getD-past ps c nowhere (ltb-false c (length ps) (when-none (ltb c (length ps)) (getD ps c nowhere) (λ y f. some-not-none (sym f ∙ e))))
+place-none ps c e = getD-past ps c nowhere (ltb-false c (length ps) (when-none (ltb c (length ps)) (getD ps c nowhere) (λ y f. no-some (sym f ∙ e))))
 
 run-list : {d : List Record} {c : ℕ} {xs : List ℕ} → Runs d c xs → (ys : List ℕ) × (xs ≡ c ∷ ys)
 run-list (ends e) = ([], refl)
@@ -68,12 +66,9 @@ points-few l (p ∷ ps) = go (eqb (p .layer) (layer-number l)) (points-few l ps)
     go false h = omega arith
 
 -- a list whose front is written over
-pub length-taken : (r : ℕ) (ys : List Point) → r ≤ length ys → length (take r ys) ≡ r
-length-taken r ys h = length-take-le r ys h
-
 pub written-whole : (ys ws xs : List Point) (r : ℕ) → r ≤ length ys → take r ys ≡ xs → drop r ys ≡ drop r ws → (r ≡ length xs) × (ys ≡ points-written xs ws)
 written-whole ys ws xs r h e f =
-    let n : r ≡ length xs = sym (length-taken r ys h) ∙ ap length e in
+    let n : r ≡ length xs = sym (length-take-le r ys h) ∙ ap length e in
     (n, sym (take-append-drop r ys) ∙ ap (λ zs. zs ++ drop r ys) e ∙ ap (λ zs. xs ++ zs) (f ∙ ap (λ k. drop k ws) n))
 
 -- where a wire can be read

@@ -1,28 +1,27 @@
 -- The small maps, worked out.
 use mathlib.Core.Path.{_≡_, refl, sym, ap, subst, _∙_}
-use mathlib.Core.Bool.{Bool, true, false}
+use mathlib.Core.Bool.{true, false}
 use mathlib.Core.List.{List, [], _∷_, map}
-use mathlib.Core.Logic.{_⊎_, inl, inr}
+use mathlib.Core.Logic.{inl, inr}
 use Prim.Native.Nat.{ℕ, zero, suc, _+_, _*_, _≤_, _<_}
 use native.Mathlib.Omega.{arith}
 use lib.ListN.{length, getD}
 use Rattle.std.specs.declared.option.Option.{Option}
 use Rattle.std.specs.declared.option.Option.the-variants.{Some, None}
 use Rattle.std.proofs.shelf.Tests.{false≢true}
-use Rattle.boards.specs.declared.maps.MapKind.the-variants.{FieldMap}
 use Rattle.boards.specs.declared.place.Place.{Place}
 use Rattle.boards.specs.Meaning.{Meaning, pad-at, landing-at, outlets-of}
 use Rattle.boards.specs.Grids.{On-grid, cell-of}
-use Rattle.boards.specs.Maps.{Sides-allowed, Map-fault, pad-point}
+use Rattle.boards.specs.Maps.{Sides-allowed, pad-point}
 use Rattle.boards.specs.Fields.{field}
 use Rattle.boards.specs.SmallBoards.{three-points}
 use Rattle.linkages.specs.Lists.{Mem, here, there}
 use Rattle.linkages.specs.Paths.{upto-landing}
 use Rattle.linkages.proofs.Members.{mem-none, mem-one, mem-at}
 use Rattle.drawings.specs.declared.records.Record.{Record}
-use Rattle.drawings.specs.declared.records.Record.the-variants.{Free, Barred, Net}
-use Rattle.drawings.specs.Records.{before-of, after-of, is-net, is-first, is-last, record-at}
-use Rattle.drawings.specs.Nets.{before-at, after-at, net-at, net, wired, bars}
+use Rattle.drawings.specs.declared.records.Record.the-variants.{Barred, Net}
+use Rattle.drawings.specs.Records.{before-of, after-of, is-first, is-last, record-at}
+use Rattle.drawings.specs.Nets.{before-at, after-at, net-at, net, bars}
 use Rattle.drawings.specs.Lawful.{Local, Reached, first, next, Lawful, Begins, Goes-on}
 use Rattle.drawings.proofs.Said.{none-not-some, net-inside}
 use Rattle.drawings.proofs.Locals.{local-free, local-everywhere}
@@ -30,8 +29,10 @@ use Rattle.layouts.specs.declared.wires.Point.{Point}
 use Rattle.layouts.specs.declared.wires.Layer.{Layer}
 use Rattle.layouts.specs.declared.wires.Layer.the-variants.{Top, Bottom}
 use Rattle.layouts.specs.Layouts.{stops, steps, Wire, Wire-of, Legal, On-map, Pad-point, on-layer, occupied}
-use Rattle.layouts.specs.Theorems.{Field-map, Draws, top-cell}
-use Rattle.layouts.specs.Examples.{spot, one-wire, two-landings, stopped, passed-above, Past-a-landing, one-point, straight-down, Pad-on-a-landing, down-at-another, Down-at-another-pad}
+use Rattle.layouts.specs.Theorems.{Field-map, top-cell}
+use Rattle.layouts.proofs.Laying.{local-off}
+use Rattle.layouts.proofs.Moves.{point-eq}
+use Rattle.layouts.specs.Examples.{spot, one-wire, two-landings, stopped, passed-above, Past-a-landing, one-point, straight-down, Pad-on-a-landing, Down-at-another-pad}
 
 -- ---- maps
 
@@ -89,16 +90,6 @@ module _ (m : Meaning) (d : List Record) (c : ℕ) where
     before-names-on = λ s p. from b B s (sym (ap before-of e) ∙ p);
   }
 
-  local-bar : record-at d c ≡ Barred → Local m d c
-  local-bar e = record {
-    first-is-pad = λ p. absurd (false≢true (sym (ap is-first e) ∙ p));
-    last-is-landing = λ p. absurd (false≢true (sym (ap is-last e) ∙ p));
-    landing-is-last = λ p l. absurd (false≢true (sym (ap is-net e) ∙ p));
-    after-is-outlet = λ t p. absurd (none-not-some (sym (ap after-of e) ∙ p));
-    after-names-back = λ t p. absurd (none-not-some (sym (ap after-of e) ∙ p));
-    before-names-on = λ s p. absurd (none-not-some (sym (ap before-of e) ∙ p));
-  }
-
 six : (P : ℕ → Type 0) → P 0 → P 1 → P 2 → P 3 → P 4 → P 5 → (c : ℕ) → c < 6 → P c
 six P a b c d e f zero h = a
 six P a b c d e f (suc zero) h = b
@@ -141,7 +132,7 @@ passed-lawful = record {
       (local-net (field 1 3 two-landings) passed-above 1 (Some 0) (Some 2) refl refl (refl, here refl, refl))
       (local-net (field 1 3 two-landings) passed-above 2 (Some 1) (Some 5) refl refl (refl, there (here refl), refl))
       (local-free (field 1 3 two-landings) passed-above 3 refl)
-      (local-bar (field 1 3 two-landings) passed-above 4 refl)
+      (local-off (field 1 3 two-landings) passed-above 4 Barred refl refl)
       (local-net (field 1 3 two-landings) passed-above 5 (Some 2) None refl refl refl));
   reached = six-reached passed-above refl (Reached passed-above) (six (λ c. net-at passed-above c ≡ true → Reached passed-above c)
       (λ _. first refl) (λ _. next {s = 0} (first refl) refl) (λ _. next {s = 1} (next {s = 0} (first refl) refl) refl) no-net no-net
@@ -184,14 +175,8 @@ pad-of-three zero (suc zero) h k e = absurd (false≢true e)
 pad-of-three zero (suc (suc zero)) h k e = absurd (false≢true e)
 pad-of-three zero (suc (suc (suc c))) h k e = let z : ⊥ = omega arith in absurd z
 
-abbrev at-point : ℕ → ℕ → Point
-at-point r c = record { row = r; column = c }
-
-same-point : {r c r′ c′ : ℕ} → r ≡ r′ → c ≡ c′ → at-point r c ≡ at-point r′ c′
-same-point e f = cc
-
 only-three : (q : Point) → On-map 1 3 q → Pad-point 3 two-landings q → q ≡ spot 0
-only-three q o h = let a = o .0 in same-point (omega arith) (pad-of-three (q .row) (q .column) (o .0) (o .1) h)
+only-three q o h = let a = o .0 in point-eq q (spot 0) (omega arith) (pad-of-three (q .row) (q .column) (o .0) (o .1) h)
 
 on-three : (c : ℕ) → c < 3 → On-map 1 3 (spot c)
 on-three c h = (omega arith, h)
@@ -248,7 +233,7 @@ past-a-landing = record {
 }
 
 only-one : (q : Point) → On-map 1 1 q → q ≡ spot 0
-only-one q o = let a = o .0 in let b = o .1 in same-point (omega arith) (omega arith)
+only-one q o = let a = o .0 in let b = o .1 in point-eq q (spot 0) (omega arith) (omega arith)
 
 pub pad-on-a-landing : Pad-on-a-landing
 pad-on-a-landing = record {

@@ -3,7 +3,6 @@ use mathlib.Core.Path.{_≡_}
 use mathlib.Core.List.{List, [], _∷_}
 use Prim.Native.Nat.{ℕ}
 use Rattle.std.specs.declared.option.Option.the-variants.{Some, None}
-use Rattle.boards.specs.declared.place.Place.{Place}
 use Rattle.boards.specs.Fields.{field}
 use Rattle.boards.specs.SmallBoards.{three-points}
 use Rattle.drawings.specs.declared.records.Record.{Record}

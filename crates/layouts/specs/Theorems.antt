@@ -7,7 +7,7 @@ use Rattle.boards.specs.declared.maps.MapKind.the-variants.{FieldMap}
 use Rattle.boards.specs.declared.place.Place.{Place}
 use Rattle.boards.specs.Meaning.{Meaning, Bounded, pad-at}
 use Rattle.boards.specs.Refusals.{None-holds}
-use Rattle.boards.specs.Grids.{cell-of, place-of}
+use Rattle.boards.specs.Grids.{cell-of, place-of, grid-places}
 use Rattle.boards.specs.Maps.{Map-fault}
 use Rattle.boards.specs.Fields.{field}
 use Rattle.linkages.specs.Lists.{Mem, Same}
@@ -18,7 +18,7 @@ use Rattle.drawings.specs.Lawful.{Lawful}
 use Rattle.drawings.specs.Conditions.{No-way}
 use Rattle.layouts.specs.declared.wires.Point.{Point}
 use Rattle.layouts.specs.Layouts.{Wire, Legal, on-layer, occupied}
-use Rattle.layouts.specs.Readings.{point-of, layout-of}
+use Rattle.layouts.specs.Readings.{point-of, reading, layout-of}
 
 -- the top cell of a point, and the point of a cell
 abbrev pub top-cell : (R C : ℕ) → Point → ℕ
@@ -50,6 +50,8 @@ Field-map R C bytes = None-holds (Map-fault FieldMap R C bytes)
 -- a lawful drawing of a field reads as a legal layout of its wired pads under its bars, and each wire occupies the cells of its net
 pub record Reads (R C : ℕ) (bytes : List ℕ) (d : List Record) : Type 0 where
   pub legal : Legal R C bytes (map (point-at R C) (wired d)) (map (place-of R C) (bars d)) (layout-of R C d)
+  -- the wire at a wired pad's point is the reading of the pad's net
+  pub read : (c : ℕ) → Mem c (wired d) → layout-of R C d (point-at R C c) ≡ reading (grid-places 2 R C) d c
   pub occupies : (c : ℕ) → Mem c (wired d) → map (cell-of R C) (occupied (layout-of R C d (point-at R C c))) ≡ net d c
 
 abbrev pub Drawings-are-layouts : Type 0

@@ -1,19 +1,18 @@
-use mathlib.Core.Path.{_≡_, refl, sym, ap, subst, _∙_}
+use mathlib.Core.Path.{_≡_, sym, ap, _∙_}
 use mathlib.Core.List.{List, [], _∷_, _++_}
 use native.Mathlib.Omega.{arith}
-use Prim.Native.Nat.{ℕ, _+_, _≤_, _<_}
+use Prim.Native.Nat.{ℕ, _+_, _≤_}
 use lib.ListN.{length, getD, take, drop}
 use Rattle.std.proofs.shelf.Lists.{append-assoc, append-nil, drop-drop}
 use Rattle.boards.specs.declared.place.Place.{Place}
 use Rattle.boards.specs.Places.{nowhere}
-use Rattle.drawings.specs.declared.records.Record.{Record}
 use Rattle.drawings.specs.Records.{after-of}
-use Rattle.drawings.specs.Nets.{net, Runs}
+use Rattle.drawings.specs.Nets.{net}
 use Rattle.drawings.proofs.Follow.{net-step, net-stop, run-some}
 use Rattle.layouts.specs.declared.wires.Point.{Point}
 use Rattle.layouts.specs.declared.wires.Layer.{Layer}
-use Rattle.layouts.specs.Readings.{points-on, places-of, points-written}
-use Rattle.layouts.proofs.Readers.{points-cons, points-few, written-whole, length-taken}
+use Rattle.layouts.specs.Readings.{points-on, places-of}
+use Rattle.layouts.proofs.Readers.{points-cons, points-few, written-whole}
 use Rattle.layouts.proofs.reading.list_points.Needs as need
 
 -- what is left stays as it was when more is written

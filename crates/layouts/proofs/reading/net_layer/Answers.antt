@@ -1,13 +1,10 @@
-use mathlib.Core.Path.{_≡_, refl, sym, ap, _∙_}
+use mathlib.Core.Path.{_≡_, sym, ap, _∙_}
 use mathlib.Core.Bool.{Bool, true, false, cond}
-use Rattle.std.specs.declared.option.Option.the-variants.{Some, None}
 use lib.ListN.{getD}
 use Rattle.boards.specs.Places.{nowhere}
 use Rattle.drawings.specs.Records.{after-of}
-use Rattle.drawings.specs.Nets.{net, Runs}
-use Rattle.drawings.proofs.Follow.{net-stop}
 use Rattle.layouts.specs.declared.wires.Layer.the-variants.{Top, Bottom}
-use Rattle.layouts.specs.Readings.{right-below, lies-on, places-of}
+use Rattle.layouts.specs.Readings.{right-below}
 use Rattle.layouts.proofs.Readers.{layer-seen}
 use Rattle.layouts.proofs.reading.net_layer.Needs as need
 

@@ -1,4 +1,4 @@
-use mathlib.Core.Path.{sym, _∙_}
+use mathlib.Core.Path.{sym}
 use Rattle.layouts.proofs.Readers.{place-none}
 use Rattle.layouts.proofs.reading.place_or_nowhere.Needs as need
 
