@@ -25,12 +25,18 @@ use Rattle.drawings.specs.Records.{before-of, after-of, is-net, is-first, is-la
 use Rattle.drawings.specs.Nets.{after-at, net-at, first-at, barred-at, wired, bars, net, Runs}
 use Rattle.drawings.specs.Lawful.{Local, Lawful}
 use Rattle.drawings.proofs.Cells.{kept-below, below-kept, distinct-kept-below}
-use Rattle.drawings.proofs.Said.{some-same, before-net, after-net, first-net, net-inside, barred-off}
+use Rattle.drawings.proofs.Said.{some-same, before-net, after-net, first-net, net-inside}
 use Rattle.drawings.proofs.Locals.{local-everywhere}
 use Rattle.drawings.proofs.Follow.{run-net, net-run, net-reached}
 use Rattle.drawings.proofs.Linking.{next-after, after-next}
 use Rattle.layouts.specs.Theorems.{Lays, Linkages-draw}
 use Rattle.layouts.proofs.Laying.{Lies, lies-runs, lies-begins, lies-before, first-or-next, laid-all, laid-all-length, laid-all-outside, laid-all-lie, local-off}
+
+-- a barred cell is on no net
+barred-off : (r : Record) → is-barred r ≡ true → is-net r ≡ false
+barred-off Free e = refl
+barred-off Barred e = refl
+barred-off (Net b a) e = absurd (false≢true e)
 
 walk-next : {m : Meaning} {bars : List ℕ} {z a u t : ℕ} {xs : List ℕ} → Walk m bars z a xs → Next u t xs → Mem t (outlets-of m u)
 walk-next (stop f e) (goes-on n) = elim n [ ]

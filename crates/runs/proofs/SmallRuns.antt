@@ -40,12 +40,12 @@ use Rattle.runs.proofs.Upheld.{judged, fenced-by}
 
 -- the first number whose condition holds is the one given
 exactly : (C : ℕ → Type 0) (n : ℕ) (report′ : List ℕ) → C n → ((k : ℕ) → k < n → C k → ⊥) → (r : Result ℕ Refusal) →
-  Answer number-of C (λ _. Unit {0}) r → Refuses n report′ r
+    Answer number-of C (λ _. Unit {0}) r → Refuses n report′ r
 exactly C n report′ c low (Ok x) a = a .0 n c
 exactly C n report′ c low (Err f) a = ⊎-elim
-  (λ e. e)
-  (⊎-elim (λ h. absurd (low (number-of f) h (a .0))) (λ h. absurd (a .1 n h c)))
-  (cases-order (number-of f) n)
+    (λ e. e)
+    (⊎-elim (λ h. absurd (low (number-of f) h (a .0))) (λ h. absurd (a .1 n h c)))
+    (cases-order (number-of f) n)
 
 is-no-way : (f : Refusal) → number-of f ≡ 12 → (p : ℕ) × ((k : ℕ) × (f ≡ NoWay p k))
 is-no-way WrongDrawing e = absurd (omega (arith, e))
@@ -71,19 +71,19 @@ module _ (m : Meaning) (b : Book) (e : Event) (pads cells : List ℕ)
     (differ : Distinct pads) (apart : Distinct cells) where
   shown : (p k : ℕ) → e .answer ≡ Err (NoWay p k) → Shows-fence m b e p k → Shows pads cells (e .report-after) (e .answer)
   shown p k a F =
-    let A = take p (e .report-after) in
-    let X = take k (drop p (e .report-after)) in
-    let same = only A X (F .fence) in
-    let room = F .room in
-    let p-is : p ≡ length pads = sym (length-take-le p (e .report-after) (omega arith)) ∙ same-length (F .fence .pads-differ) differ (same .0) in
-    let rest : k ≤ length (drop p (e .report-after)) = simp length-drop (omega arith) in
-    let k-is : k ≡ length cells = sym (length-take-le k (drop p (e .report-after)) rest) ∙ same-length (F .fence .cells-differ) apart (same .1) in
-    record {
-      no-way = a ∙ (ap (λ n. Err (NoWay n k)) p-is ∙ ap (λ n. Err (NoWay (length pads) n)) k-is);
-      pads-shown = subst (λ (n : ℕ). Same (take n (e .report-after)) pads) p-is (same .0);
-      cells-shown = subst (λ (n : ℕ). Same (take (length cells) (drop n (e .report-after))) cells) p-is
-        (subst (λ (n : ℕ). Same (take n (drop p (e .report-after))) cells) k-is (same .1));
-    }
+      let A = take p (e .report-after) in
+      let X = take k (drop p (e .report-after)) in
+      let same = only A X (F .fence) in
+      let room = F .room in
+      let p-is : p ≡ length pads = sym (length-take-le p (e .report-after) (omega arith)) ∙ same-length (F .fence .pads-differ) differ (same .0) in
+      let rest : k ≤ length (drop p (e .report-after)) = simp length-drop (omega arith) in
+      let k-is : k ≡ length cells = sym (length-take-le k (drop p (e .report-after)) rest) ∙ same-length (F .fence .cells-differ) apart (same .1) in
+      record {
+        no-way = a ∙ (ap (λ n. Err (NoWay n k)) p-is ∙ ap (λ n. Err (NoWay (length pads) n)) k-is);
+        pads-shown = subst (λ (n : ℕ). Same (take n (e .report-after)) pads) p-is (same .0);
+        cells-shown = subst (λ (n : ℕ). Same (take (length cells) (drop n (e .report-after))) cells) p-is
+            (subst (λ (n : ℕ). Same (take n (drop p (e .report-after))) cells) k-is (same .1));
+      }
 
 -- the book of the row with pad 0 wired
 abbrev zero-booked : Book
@@ -104,7 +104,7 @@ no-pads-met m bars = record {
 -- where a single pad is shut in, that is the only fence
 alone : (m : Meaning) (bars : List ℕ) (q : ℕ) → Fence m bars (q ∷ []) (q ∷ []) [] → (A X : List ℕ) → Fence m bars (q ∷ []) A X → Same A (q ∷ []) × Same X []
 alone m bars q F A X G =
-  fences-agree m bars bars (q ∷ []) (q ∷ []) [] q (λ c k. k, λ c k. k) (λ c k. k, λ c k. k) (λ c k. k) (no-pads-met m bars) A X (q ∷ []) [] G F
+    fences-agree m bars bars (q ∷ []) (q ∷ []) [] q (λ c k. k, λ c k. k) (λ c k. k, λ c k. k) (λ c k. k) (no-pads-met m bars) A X (q ∷ []) [] G F
 
 true-false : {Q : Type 0} → true ≡ false → Q
 true-false e = absurd (false≢true (sym e))
@@ -194,10 +194,10 @@ one-point-0 work report w s k l (inr (inr (inr (inr (inr h))))) = omega (arith, 
 
 place-0-answers : Always row-field Place 0 (replicate 6 Free) (λ _ r. r ≡ Ok 5)
 place-0-answers e work work′ report report′ (Ok z) w s P =
-  let k = kept-below (λ c. net-at e c && landing-at row-field c) (length e) z (P .0 .1 .wired-also .rewired .landing-used .1 z (here refl)) .1 in
-  ap Ok (only-landing z (and-parts (net-at e z) (landing-at row-field z) k .1))
+    let k = kept-below (λ c. net-at e c && landing-at row-field c) (length e) z (P .0 .1 .wired-also .rewired .landing-used .1 z (here refl)) .1 in
+    ap Ok (only-landing z (and-parts (net-at e z) (landing-at row-field z) k .1))
 place-0-answers e work work′ report report′ (Err f) w s P =
-  absurd (fresh-0 work report w s (number-of f)
+    absurd (fresh-0 work report w s (number-of f)
     (judged row-field (replicate 6 Free) empty-book (standing row-field [] tt) 0 e work work′ report report′ Place (Err f) P .0))
 
 flip : (a b : ℕ) → Within (a ∷ b ∷ []) (b ∷ a ∷ [])
@@ -209,43 +209,43 @@ pub small-runs : Small-runs
 small-runs = record {
   place-0 = place-0-answers;
   place-2 = λ e work work′ report report′ r w s P.
-    exactly _ 6 report′ (inr (inr (inl (refl, refl)))) (fresh-2 work report w s) r
-    (judged row-field (replicate 6 Free) empty-book (standing row-field [] tt) 2 e work work′ report report′ Place r P);
+      exactly _ 6 report′ (inr (inr (inl (refl, refl)))) (fresh-2 work report w s) r
+      (judged row-field (replicate 6 Free) empty-book (standing row-field [] tt) 2 e work work′ report report′ Place r P);
   place-6 = λ e work work′ report report′ r w s P.
-    exactly _ 5 report′ (inr (inl (refl, omega arith))) (fresh-6 work report w s) r
-    (judged row-field (replicate 6 Free) empty-book (standing row-field [] tt) 6 e work work′ report report′ Place r P);
+      exactly _ 5 report′ (inr (inl (refl, omega arith))) (fresh-6 work report w s) r
+      (judged row-field (replicate 6 Free) empty-book (standing row-field [] tt) 6 e work work′ report report′ Place r P);
   place-0-again = λ d Z e work work′ report report′ r w s P.
-    exactly _ 7 report′ (inr (inr (inr (inl (refl, here refl))))) (again-0 work report w s) r
-    (judged row-field d zero-booked (zero-standing d Z) 0 e work work′ report report′ Place r P);
+      exactly _ 7 report′ (inr (inr (inr (inl (refl, here refl))))) (again-0 work report w s) r
+      (judged row-field d zero-booked (zero-standing d Z) 0 e work work′ report report′ Place r P);
   bar-0 = λ d Z e work work′ report report′ r w s P.
-    exactly _ 11 report′ (inr (inr (inr (inl (refl, here refl))))) (before-bar-0 work report w s) r
-    (judged row-field d zero-booked (zero-standing d Z) 0 e work work′ report report′ Bar r P);
+      exactly _ 11 report′ (inr (inr (inr (inl (refl, here refl))))) (before-bar-0 work report w s) r
+      (judged row-field d zero-booked (zero-standing d Z) 0 e work work′ report report′ Bar r P);
   place-1 = λ d Z e work work′ report report′ r w s P.
-    let cannot : CanBeMet row-field [] (1 ∷ 0 ∷ []) → ⊥ =
-          λ L. row-example .both-cannot (linkage-for-less row-field [] [] (1 ∷ 0 ∷ []) (0 ∷ 1 ∷ []) (flip 0 1) (λ c k. k) L) in
-    let twelve = exactly _ 12 report′ (inr (inr (inr (inr (inr (refl, cannot)))))) (before-place-1 work report w s) r
-          (judged row-field d zero-booked (zero-standing d Z) 1 e work work′ report report′ Place r P) in
-    let n = refused-no-way r report′ twelve in
-    shown row-field zero-booked (event Place 1 d e work work′ report report′ r) (0 ∷ 1 ∷ []) (5 ∷ [])
+      let cannot : CanBeMet row-field [] (1 ∷ 0 ∷ []) → ⊥ =
+      λ L. row-example .both-cannot (linkage-for-less row-field [] [] (1 ∷ 0 ∷ []) (0 ∷ 1 ∷ []) (flip 0 1) (λ c k. k) L) in
+      let twelve = exactly _ 12 report′ (inr (inr (inr (inr (inr (refl, cannot)))))) (before-place-1 work report w s) r
+      (judged row-field d zero-booked (zero-standing d Z) 1 e work work′ report report′ Place r P) in
+      let n = refused-no-way r report′ twelve in
+      shown row-field zero-booked (event Place 1 d e work work′ report report′ r) (0 ∷ 1 ∷ []) (5 ∷ [])
       (λ A X F. row-example .no-other A X (fence-booked row-field [] [] (1 ∷ 0 ∷ []) (0 ∷ 1 ∷ []) A X (λ c k. k, λ c k. k) (flip 1 0, flip 0 1) F))
       ((λ k. omega (arith, mem-one k)), (mem-none, tt)) (mem-none, tt) (n .0) (n .1 .0) (n .1 .1)
       (fenced-by row-field d zero-booked (zero-standing d Z) 1 e work work′ report report′ Place r P (n .0) (n .1 .0) (n .1 .1));
   bar-4 = λ d Z e work work′ report report′ r w s P.
-    let F = barred-row-example .alone in
-    let cannot = λ (L : CanBeMet row-field (4 ∷ []) (0 ∷ [])). no-linkage row-field (4 ∷ []) (0 ∷ []) (0 ∷ []) [] (0 ∷ []) F (λ c k. k) L in
-    let twelve = exactly _ 12 report′ (inr (inr (inr (inr (refl, cannot))))) (before-bar-4 work report w s) r
-          (judged row-field d zero-booked (zero-standing d Z) 4 e work work′ report report′ Bar r P) in
-    let n = refused-no-way r report′ twelve in
-    shown row-field zero-booked (event Bar 4 d e work work′ report report′ r) (0 ∷ []) [] (alone row-field (4 ∷ []) 0 F)
+      let F = barred-row-example .alone in
+      let cannot = λ (L : CanBeMet row-field (4 ∷ []) (0 ∷ [])). no-linkage row-field (4 ∷ []) (0 ∷ []) (0 ∷ []) [] (0 ∷ []) F (λ c k. k) L in
+      let twelve = exactly _ 12 report′ (inr (inr (inr (inr (refl, cannot))))) (before-bar-4 work report w s) r
+      (judged row-field d zero-booked (zero-standing d Z) 4 e work work′ report report′ Bar r P) in
+      let n = refused-no-way r report′ twelve in
+      shown row-field zero-booked (event Bar 4 d e work work′ report report′ r) (0 ∷ []) [] (alone row-field (4 ∷ []) 0 F)
       (mem-none, tt) tt (n .0) (n .1 .0) (n .1 .1)
       (fenced-by row-field d zero-booked (zero-standing d Z) 4 e work work′ report report′ Bar r P (n .0) (n .1 .0) (n .1 .1));
   no-escape = λ e work work′ report report′ r w s P.
-    let F = lone-example .fence in
-    let cannot = λ (L : CanBeMet one-point [] (0 ∷ [])). no-linkage one-point [] (0 ∷ []) (0 ∷ []) [] (0 ∷ []) F (λ c k. k) L in
-    let twelve = exactly _ 12 report′ (inr (inr (inr (inr (inr (refl, cannot)))))) (one-point-0 work report w s) r
-          (judged one-point (replicate 1 Free) empty-book (standing one-point [] tt) 0 e work work′ report report′ Place r P) in
-    let n = refused-no-way r report′ twelve in
-    shown one-point empty-book (event Place 0 (replicate 1 Free) e work work′ report report′ r) (0 ∷ []) [] (alone one-point [] 0 F)
+      let F = lone-example .fence in
+      let cannot = λ (L : CanBeMet one-point [] (0 ∷ [])). no-linkage one-point [] (0 ∷ []) (0 ∷ []) [] (0 ∷ []) F (λ c k. k) L in
+      let twelve = exactly _ 12 report′ (inr (inr (inr (inr (inr (refl, cannot)))))) (one-point-0 work report w s) r
+      (judged one-point (replicate 1 Free) empty-book (standing one-point [] tt) 0 e work work′ report report′ Place r P) in
+      let n = refused-no-way r report′ twelve in
+      shown one-point empty-book (event Place 0 (replicate 1 Free) e work work′ report report′ r) (0 ∷ []) [] (alone one-point [] 0 F)
       (mem-none, tt) tt (n .0) (n .1 .0) (n .1 .1)
       (fenced-by one-point (replicate 1 Free) empty-book (standing one-point [] tt) 0 e work work′ report report′ Place r P (n .0) (n .1 .0) (n .1 .1));
 }

@@ -73,11 +73,11 @@ module _ (m : Meaning) (d : List Record) (b : Book) (S : Standing m d b) (c : �
       Shows-fence m b (event kind c d e work work′ report report′ r) p k
   fenced-by Place r P p k g =
       let F = subst (λ (x : Result ℕ Refusal). refused x (Leaves (Untouched d e work work′ report report′)
-            (Fenced m d e (bars d) (c ∷ wired d) work work′ report report′))) g (P .1) in
+      (Fenced m d e (bars d) (c ∷ wired d) work work′ report report′))) g (P .1) in
       shows-fence m b (event Place c d e work work′ report report′ r) (bars d) (c ∷ wired d) (S .barred) (same-more c _ _ (S .pads)) p k (F .shown)
   fenced-by Bar r P p k g =
       let F = subst (λ (x : Result ℕ Refusal). refused x (Leaves (Untouched d e work work′ report report′)
-            (Fenced m d e (c ∷ bars d) (wired d) work work′ report report′))) g (P .1) in
+      (Fenced m d e (c ∷ bars d) (wired d) work work′ report report′))) g (P .1) in
       shows-fence m b (event Bar c d e work work′ report report′ r) (c ∷ bars d) (wired d) (same-more c _ _ (S .barred)) (S .pads) p k (F .shown)
   fenced-by Lift r P p k g = never Lift r p k not-lift (judged Lift r P) g
   fenced-by Clear r P p k g = never Clear r p k not-clear (judged Clear r P) g

@@ -32,7 +32,7 @@ one-point = escape 1 1 (1 ∷ [])
 -- whatever a call of this kind does, with memory enough, Q holds of its report memory and its answer
 abbrev pub Always : Meaning → Kind → ℕ → List Record → (List ℕ → Result ℕ Refusal → Type 0) → Type 0
 Always m kind c d Q = (e : List Record) (work work′ report report′ : List ℕ) (r : Result ℕ Refusal) →
-  4 * m .cells ≤ length work → 2 * m .cells ≤ length report → Performs m kind c d e work work′ report report′ r → Q report′ r
+    4 * m .cells ≤ length work → 2 * m .cells ≤ length report → Performs m kind c d e work work′ report report′ r → Q report′ r
 
 abbrev pub Refuses : ℕ → List ℕ → Result ℕ Refusal → Type 0
 Refuses n report′ (Ok x) = ⊥
