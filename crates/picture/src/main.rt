@@ -9,6 +9,7 @@ mod report;
 mod sheet;
 #[cfg(test)]
 mod tests;
+mod wires;
 
 use report::report;
 use std::io;

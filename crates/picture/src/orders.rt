@@ -2,7 +2,6 @@
 use crate::sheet::Order;
 use boards::board::Board;
 use drawings::records::Record;
-use drawings::records::record_at;
 use drawings::refusals::Refusal;
 use runs::calls::Call;
 use runs::calls::Kind;
@@ -93,42 +92,4 @@ fn say_numbers(
         text.push_str(format!(heap, " {number}")?.as_str())?;
     }
     Ok(text)
-}
-
-// A character for each cell of a drawing: a letter for each net, capital at its pad, # for a bar, a blank for a free cell.
-pub fn labels<B: Board>(
-    heap: Global,
-    board: &B,
-    drawing: &[Record],
-) -> Result<Vec<char>, AllocError> {
-    let mut labels = vec![in heap; ' '; drawing.len()]?;
-    let mut nets = 0u8;
-    for cell in 0..board.cells() {
-        let record = record_at(drawing, cell);
-        if record.is_barred() {
-            write(&mut labels, cell, '#');
-        } else if record.is_first() {
-            label_net(&mut labels, drawing, cell, nets);
-            nets = nets.wrapping_add(1);
-        }
-    }
-    Ok(labels)
-}
-
-fn label_net(labels: &mut Vec<char>, drawing: &[Record], pad: u16, net: u8) {
-    write(labels, pad, (b'A' + net % 26) as char);
-    let mut next = record_at(drawing, pad).after();
-    for _ in 0..drawing.len() {
-        let Some(cell) = next else {
-            break;
-        };
-        write(labels, cell, (b'a' + net % 26) as char);
-        next = record_at(drawing, cell).after();
-    }
-}
-
-fn write(labels: &mut Vec<char>, cell: u16, label: char) {
-    if let Some(place) = labels.get_mut(cell as usize) {
-        *place = label;
-    }
 }

@@ -65,3 +65,22 @@ fn an_escape_board(rt: LibcRuntime) -> Result<(), Fail> {
     let rows = "escape 3 x 3: 9 cells, 2 pads, 7 landings\n\nlayer 1\n L L L\n L P L\n P L L\n\n";
     check(shown.as_str().starts_with(rows))
 }
+
+// The pads of the first field have one way each. On the second a bar keeps the wire on layer 1.
+#[test]
+fn wires_on_their_layers(rt: LibcRuntime) -> Result<(), Fail> {
+    let cases = [
+        (
+            "field 1 3\n112\nplace 0\n",
+            "field 1 x 3: 6 cells, 2 pads, 1 landings\nplace 0: ok 5\n\nlayer 1\n A P v\n\nlayer 2\n a a a\n\n",
+        ),
+        (
+            "field 1 2\n12\nbar 2\nplace 0\n",
+            "field 1 x 2: 4 cells, 1 pads, 1 landings\nbar 2: ok 0\nplace 0: ok 3\n\nlayer 1\n A a\n\nlayer 2\n # a\n\n",
+        ),
+    ];
+    for (text, shown) in cases {
+        check(report(rt.alloc(), text)?.as_str().starts_with(shown))?;
+    }
+    Ok(())
+}

@@ -1,4 +1,4 @@
-// Places pads on small boards and shows what the router answers, for comparison with answers found by trying everything.
+// Makes calls on small boards and shows what the router answers, for comparison with answers found by trying everything.
 //
 // Standard input is a table with a board on each line, made by tools/brute_force.py, and the answers expected are its too. Which
 // landing a pad gets, and by which course, is the router's choice, so nothing of it is shown.

@@ -1,10 +1,11 @@
-// A board as a line of the table gives it, and the cells to be placed on it.
+// A board as a line of the table gives it, and the calls to be made on it.
 //
-// `field 1 3 112 4 : 0 1` is a field of one row and three columns with the map 1 1 2 and cell 4 kept out, on which cell 0 is
-// placed and then cell 1.
+// `field 1 3 112 4:place 0,bar 5` is a field of one row and three columns with the map 1 1 2 and cell 4 kept out, on which cell 0
+// is placed and then cell 5 barred.
 ghost use mathlib.Core.Path.{_≡_};
 ghost use Prim.Native.Nat.{_-_, _<_, _≤_};
 ghost use Rattle.std.specs.declared.option.Option.the-variants.{Some, None};
+use runs::calls;
 use std::alloc::AllocError;
 use std::alloc::Global;
 use std::alloc::Refused;
@@ -24,7 +25,14 @@ pub struct Row {
     pub columns: u16,
     pub bytes: Vec<u8>,
     pub kept: Vec<u16>,
-    pub order: Vec<u16>,
+    pub orders: Vec<Order>,
+}
+
+// A call to be made.
+#[derive(Clone, Copy)]
+pub struct Order {
+    pub kind: calls::Kind,
+    pub cell: u16,
 }
 
 #[derive(Drop)]
@@ -47,7 +55,7 @@ impl<T: Drop> From<Refused<T>> for RowError as RowErrorFromRefused {
 }
 
 pub fn read_row(heap: Global, line: &str) -> Result<Row, RowError> {
-    let Some((board, order)) = line.split_once(':') else {
+    let Some((board, orders)) = line.split_once(':') else {
         return Err(RowError::Form);
     };
     let mut words = board.split_ascii_whitespace();
@@ -65,7 +73,7 @@ pub fn read_row(heap: Global, line: &str) -> Result<Row, RowError> {
         columns,
         bytes,
         kept,
-        order: read_numbers(heap, order)?,
+        orders: read_orders(heap, orders)?,
     })
 }
 
@@ -85,12 +93,32 @@ fn read_number(word: Option<&str>) -> Result<u16, RowError> {
     }
 }
 
-fn read_numbers(heap: Global, text: &str) -> Result<Vec<u16>, RowError> {
-    let mut numbers = Vec::new(heap);
-    for word in text.split_ascii_whitespace() {
-        numbers.push(read_number(Some(word))?)?;
+fn read_orders(heap: Global, text: &str) -> Result<Vec<Order>, RowError> {
+    let mut orders = Vec::new(heap);
+    for order in text.split(',') {
+        orders.push(read_order(order)?)?;
     }
-    Ok(numbers)
+    Ok(orders)
+}
+
+fn read_order(text: &str) -> Result<Order, RowError> {
+    let Some((word, number)) = text.split_once(' ') else {
+        return Err(RowError::Form);
+    };
+    Ok(Order {
+        kind: read_call(word)?,
+        cell: read_number(Some(number))?,
+    })
+}
+
+fn read_call(word: &str) -> Result<calls::Kind, RowError> {
+    match word {
+        "place" => Ok(calls::Kind::Place),
+        "lift" => Ok(calls::Kind::Lift),
+        "bar" => Ok(calls::Kind::Bar),
+        "clear" => Ok(calls::Kind::Clear),
+        _ => Err(RowError::Form),
+    }
 }
 
 fn read_map(heap: Global, digits: &str) -> Result<Vec<u8>, RowError> {

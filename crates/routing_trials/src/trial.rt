@@ -1,5 +1,6 @@
-// Pads placed one after another, and what each call answers.
+// Calls made one after another, and what each answers.
 use crate::row::Kind;
+use crate::row::Order;
 use crate::row::Row;
 use crate::row::RowError;
 use crate::row::read_row;
@@ -17,11 +18,12 @@ use drawings::records::record_at;
 use drawings::refusals::Refusal;
 use drawings_trials::ring::Ring;
 use drawings_trials::ring::RingBoard;
-use routing::place::place;
+use runs::calls;
+use runs::step::step;
 use std::alloc::AllocError;
 use std::alloc::Global;
 
-// The answers for a line of the table, in the order of its pads.
+// The answers for a line of the table, in the order of its calls.
 pub fn answers(heap: Global, line: &str) -> Result<String, AllocError> {
     match read_row(heap, line) {
         Ok(row) => try_row(heap, row),
@@ -37,22 +39,22 @@ fn try_row(heap: Global, row: Row) -> Result<String, AllocError> {
         columns,
         bytes,
         kept,
-        order,
+        orders,
     } = row;
     match kind {
         Kind::Field => try_kept(
             heap,
             KeepOut::new(Field::new(rows, columns, bytes)),
             kept.as_slice(),
-            order.as_slice(),
+            orders.as_slice(),
         ),
         Kind::Escape => try_kept(
             heap,
             KeepOut::new(Escape::new(rows, columns, bytes)),
             kept.as_slice(),
-            order.as_slice(),
+            orders.as_slice(),
         ),
-        Kind::Ring => try_kept(heap, KeepOut::new(Ring), kept.as_slice(), order.as_slice()),
+        Kind::Ring => try_kept(heap, KeepOut::new(Ring), kept.as_slice(), orders.as_slice()),
     }
 }
 
@@ -60,55 +62,92 @@ fn try_kept<B: Board + Drop>(
     heap: Global,
     mut board: KeepOut<B>,
     kept: &[u16],
-    order: &[u16],
+    orders: &[Order],
 ) -> Result<String, AllocError> {
     for cell in kept {
         let _ = board.close(*cell);
     }
-    try_board(heap, &board, order)
+    try_board(heap, &board, orders)
 }
 
-fn try_board<B: Board>(heap: Global, board: &B, order: &[u16]) -> Result<String, AllocError> {
-    let mut drawing = vec![in heap; Record::Barred; board.cells() as usize]?;
+fn try_board<B: Board>(heap: Global, board: &B, orders: &[Order]) -> Result<String, AllocError> {
+    let cells = board.cells() as usize;
+    let mut drawing = vec![in heap; Record::Barred; cells]?;
     let _ = new(board, drawing.as_mut_slice());
-    let mut wired = Vec::new(heap);
+    let mut book = Book {
+        wired: vec![in heap; false; cells]?,
+        barred: vec![in heap; false; cells]?,
+    };
     let mut text = String::new(heap);
-    for cell in order {
+    for order in orders {
         if !text.is_empty() {
             text.push(' ')?;
         }
-        let answer = try_place(heap, board, drawing.as_mut_slice(), &mut wired, *cell)?;
+        let answer = try_call(heap, board, drawing.as_mut_slice(), &mut book, *order)?;
         text.push_str(answer.as_str())?;
-        if !stands(board, drawing.as_slice(), wired.as_slice()) {
+        if !stands(board, drawing.as_slice(), &book) {
             text.push_str(" bad")?;
         }
     }
     Ok(text)
 }
 
-// Places a pad with work memory that holds anything, and adds it to the wired ones if it is accepted.
-fn try_place<B: Board>(
+// Which cells the accepted calls leave wired, and which barred.
+#[derive(Drop)]
+struct Book {
+    wired: Vec<bool>,
+    barred: Vec<bool>,
+}
+
+// Makes a call with work memory that holds anything, and enters it into the book if it is accepted.
+fn try_call<B: Board>(
     heap: Global,
     board: &B,
     drawing: &mut [Record],
-    wired: &mut Vec<u16>,
-    cell: u16,
+    book: &mut Book,
+    order: Order,
 ) -> Result<String, AllocError> {
+    let Order { kind, cell } = order;
     let cells = board.cells() as usize;
     let mut work = vec![in heap; 7u16; 4 * cells]?;
     let mut report = vec![in heap; 7u16; 2 * cells]?;
-    match place(
+    match step(
         board,
         drawing,
+        kind,
+        cell,
         work.as_mut_slice(),
         report.as_mut_slice(),
-        cell,
     ) {
-        Ok(_) => {
-            wired.push(cell)?;
-            format!(heap, "ok")
+        Ok(number) => {
+            enter(book, order);
+            show_answer(heap, kind, number)
         }
         Err(refusal) => show_refusal(heap, refusal, report.as_slice()),
+    }
+}
+
+fn enter(book: &mut Book, order: Order) {
+    let at = order.cell as usize;
+    match order.kind {
+        calls::Kind::Place => set(&mut book.wired, at, true),
+        calls::Kind::Lift => set(&mut book.wired, at, false),
+        calls::Kind::Bar => set(&mut book.barred, at, true),
+        calls::Kind::Clear => set(&mut book.barred, at, false),
+    }
+}
+
+fn set(marks: &mut Vec<bool>, at: usize, mark: bool) {
+    if let Some(place) = marks.get_mut(at) {
+        *place = mark;
+    }
+}
+
+// Only the answer to a clear depends on the calls alone.
+fn show_answer(heap: Global, kind: calls::Kind, number: u16) -> Result<String, AllocError> {
+    match kind {
+        calls::Kind::Clear => format!(heap, "ok{number}"),
+        _ => format!(heap, "ok"),
     }
 }
 
@@ -143,10 +182,14 @@ fn list_sorted(heap: Global, report: &[u16], from: u16, count: u16) -> Result<St
     Ok(text)
 }
 
-// Whether the drawing is lawful and its wired pads are these.
-fn stands<B: Board>(board: &B, drawing: &[Record], wired: &[u16]) -> bool {
+// Whether the drawing is lawful and its wired pads and bars are those in the book.
+fn stands<B: Board>(board: &B, drawing: &[Record], book: &Book) -> bool {
     for cell in 0..board.cells() {
-        if record_at(drawing, cell).is_first() != wired.contains(&cell) {
+        let at = cell as usize;
+        let record = record_at(drawing, cell);
+        if record.is_first() != book.wired.get(at).copied().unwrap_or(false)
+            || record.is_barred() != book.barred.get(at).copied().unwrap_or(false)
+        {
             return false;
         }
     }
