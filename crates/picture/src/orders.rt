@@ -1,7 +1,9 @@
 // Making the calls of a sheet, and what is said of each.
 use crate::sheet::Order;
 use boards::board::Board;
+use drawings::calls::show;
 use drawings::records::Record;
+use drawings::records::record_at;
 use drawings::refusals::Refusal;
 use runs::calls::Call;
 use runs::calls::Kind;
@@ -90,6 +92,25 @@ fn say_numbers(
     let mut text = String::new(heap);
     for number in report.iter().skip(from).take(count) {
         text.push_str(format!(heap, " {number}")?.as_str())?;
+    }
+    Ok(text)
+}
+
+// A line for each wired pad: the cells of its net, from the pad to the landing.
+pub fn courses<B: Board>(
+    heap: Global,
+    board: &B,
+    drawing: &[Record],
+) -> Result<String, AllocError> {
+    let mut report = vec![in heap; 0u16; 2 * board.cells() as usize]?;
+    let mut text = String::new(heap);
+    for pad in 0..board.cells() {
+        if record_at(drawing, pad).is_first() {
+            if let Ok(count) = show(board, drawing, report.as_mut_slice(), pad) {
+                let course = say_numbers(heap, report.as_slice(), 0, count as usize)?;
+                text.push_str(format!(heap, "course of {pad}:{course}\n")?.as_str())?;
+            }
+        }
     }
     Ok(text)
 }

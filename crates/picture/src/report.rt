@@ -3,6 +3,7 @@ use crate::canvas::LEGEND;
 use crate::canvas::Size;
 use crate::canvas::draw;
 use crate::orders::Outcome;
+use crate::orders::courses;
 use crate::orders::perform;
 use crate::sheet::Order;
 use crate::sheet::Sheet;
@@ -90,11 +91,12 @@ fn report_board<B: PlacedBoard>(
     let pads = count_marked(board, Mark::Pad);
     let landings = count_marked(board, Mark::Landing);
     let Outcome { drawing, answers } = perform(heap, board, orders)?;
+    let courses = courses(heap, board, drawing.as_slice())?;
     let labels = labels(heap, board, drawing.as_slice())?;
     let picture = draw(heap, board, labels.as_slice(), size)?;
     format!(
         heap,
-        "{name} {rows} x {columns}: {cells} cells, {pads} pads, {landings} landings\n{answers}{picture}\n{LEGEND}\n"
+        "{name} {rows} x {columns}: {cells} cells, {pads} pads, {landings} landings\n{answers}{courses}{picture}\n{LEGEND}\n"
     )
 }
 
