@@ -13,7 +13,7 @@ pub enum Mark {
 
 // How many cells of the board have the mark.
 pub fn count_marked<B: Board>(board: &B, mark: Mark) -> u16
-    ensures { result ≡ mark_count (meaning board.now) mark }
+    ensures { result ≡ mark_count (B.meaning board.now) mark }
 {
     let mut count = 0;
     for cell in 0..board.cells() {
@@ -25,7 +25,7 @@ pub fn count_marked<B: Board>(board: &B, mark: Mark) -> u16
 }
 
 fn is_marked<B: Board>(board: &B, cell: u16, mark: Mark) -> bool
-    ensures { result ≡ mark_at (meaning board.now) mark cell }
+    ensures { result ≡ mark_at (B.meaning board.now) mark cell }
 {
     match mark {
         Mark::Pad => board.is_pad(cell),

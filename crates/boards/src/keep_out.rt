@@ -32,7 +32,7 @@ impl<B: Board> KeepOut<B> {
 
     // Closes a cell; to close it again changes nothing. A number that is no cell is refused.
     pub fn close(&mut self, cell: u16) -> Result<(), BoardRefusal>
-        ensures answer { Answer number_of (CloseFault (meaning self.old.board) cell) (λ _. Unit {0}) result }
+        ensures answer { Answer number_of (CloseFault (B.meaning self.old.board) cell) (λ _. Unit {0}) result }
         ensures closes { Closes cell self.old.mask self.new.mask result }
         ensures same_board { self.new.board ≡ self.old.board }
     {
@@ -43,7 +43,7 @@ impl<B: Board> KeepOut<B> {
 
     // Refuses a number that is no cell.
     fn require(&self, cell: u16) -> Result<(), BoardRefusal>
-        ensures { Answer number_of (CloseFault (meaning self.now.board) cell) (λ _. cell < (meaning self.now.board).cells) result }
+        ensures { Answer number_of (CloseFault (B.meaning self.now.board) cell) (λ _. cell < (B.meaning self.now.board).cells) result }
     {
         if cell >= self.board.cells() {
             return Err(BoardRefusal::OffBoard);
@@ -71,7 +71,7 @@ impl<B: Board> KeepOut<B> {
 
     // The i-th outlet below, if it is open.
     fn open_outlet(&self, cell: u16, i: u8) -> Option<u16>
-        ensures { result ≡ if_open (is_closed self.now.mask) (outlet_at (meaning self.now.board) cell i) }
+        ensures { result ≡ if_open (is_closed self.now.mask) (outlet_at (B.meaning self.now.board) cell i) }
     {
         match self.board.outlet(cell, i) {
             Some(next) if !self.is_closed(next) => Some(next),

@@ -16,7 +16,7 @@ use records::refusal::Refusal;
 
 // Makes every cell free and answers 0.
 pub fn new<B: Board>(board: &B, drawing: &mut [Record]) -> Result<u16, Refusal>
-    ensures answer { Answer number_of (NewRefused (meaning board.now) drawing.old) (Made (meaning board.now) drawing.new) result }
+    ensures answer { Answer number_of (NewRefused (B.meaning board.now) drawing.old) (Made (B.meaning board.now) drawing.new) result }
     ensures kept { OnErr result (drawing.new ≡ drawing.old) }
 {
     if drawing.len() != board.cells() as usize {
@@ -30,8 +30,8 @@ pub fn new<B: Board>(board: &B, drawing: &mut [Record]) -> Result<u16, Refusal>
 
 // Frees the net of a wired pad, changes no other cell, and answers the landing set free.
 pub fn lift<B: Board>(board: &B, drawing: &mut [Record], cell: u16) -> Result<u16, Refusal>
-    ensures answer { Answer number_of (LiftRefused (meaning board.now) drawing.old cell)
-        (Lifted (meaning board.now) drawing.old drawing.new cell) result }
+    ensures answer { Answer number_of (LiftRefused (B.meaning board.now) drawing.old cell)
+        (Lifted (B.meaning board.now) drawing.old drawing.new cell) result }
     ensures kept { OnErr result (drawing.new ≡ drawing.old) }
 {
     if drawing.len() != board.cells() as usize {
@@ -57,7 +57,7 @@ pub fn lift<B: Board>(board: &B, drawing: &mut [Record], cell: u16) -> Result<u1
 
 // The number of bars.
 fn count_bars<B: Board>(board: &B, drawing: &[Record]) -> u16
-    requires { length drawing.now ≡ (meaning board.now).cells }
+    requires { length drawing.now ≡ (B.meaning board.now).cells }
     ensures { result ≡ length (bars drawing.now) }
 {
     let mut count = 0;
@@ -71,8 +71,8 @@ fn count_bars<B: Board>(board: &B, drawing: &[Record]) -> u16
 
 // Makes a barred cell free and answers how many bars remain.
 pub fn clear<B: Board>(board: &B, drawing: &mut [Record], cell: u16) -> Result<u16, Refusal>
-    ensures answer { Answer number_of (ClearRefused (meaning board.now) drawing.old cell)
-        (Cleared (meaning board.now) drawing.old drawing.new cell) result }
+    ensures answer { Answer number_of (ClearRefused (B.meaning board.now) drawing.old cell)
+        (Cleared (B.meaning board.now) drawing.old drawing.new cell) result }
     ensures kept { OnErr result (drawing.new ≡ drawing.old) }
 {
     if drawing.len() != board.cells() as usize {
@@ -98,8 +98,8 @@ pub fn show<B: Board>(
     report: &mut [u16],
     cell: u16,
 ) -> Result<u16, Refusal>
-    ensures answer { Answer number_of (ShowRefused (meaning board.now) drawing.now report.old cell)
-        (Shown (meaning board.now) drawing.now report.old report.new cell) result }
+    ensures answer { Answer number_of (ShowRefused (B.meaning board.now) drawing.now report.old cell)
+        (Shown (B.meaning board.now) drawing.now report.old report.new cell) result }
     ensures kept { OnErr result (report.new ≡ report.old) }
 {
     if drawing.len() != board.cells() as usize {

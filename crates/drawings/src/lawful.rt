@@ -16,7 +16,7 @@ use records::record::{Record, record_at};
 
 // Whether a cell is an outlet of another.
 fn leads<B: Board>(board: &B, from: u16, to: u16) -> bool
-    ensures { Decides result (Mem to (outlets_of (meaning board.now) from)) }
+    ensures { Decides result (Mem to (outlets_of (B.meaning board.now) from)) }
 {
     for j in 0..8u8 {
         if let Some(outlet) = board.outlet(from, j) {
@@ -50,7 +50,7 @@ fn goes_to(drawing: &[Record], cell: u16, to: u16) -> bool
 
 // Whether a net cell begins rightly: at a pad, or after a cell that leads on to it.
 fn begins<B: Board>(board: &B, drawing: &[Record], cell: u16, before: Option<u16>) -> bool
-    ensures { Decides result (Begins (meaning board.now) drawing.now cell before) }
+    ensures { Decides result (Begins (B.meaning board.now) drawing.now cell before) }
 {
     match before {
         Some(from) => goes_to(drawing, from, cell),
@@ -60,7 +60,7 @@ fn begins<B: Board>(board: &B, drawing: &[Record], cell: u16, before: Option<u16
 
 // Whether a net cell goes on rightly: at a landing not at all, else to an outlet that comes from it.
 fn goes_on<B: Board>(board: &B, drawing: &[Record], cell: u16, after: Option<u16>) -> bool
-    ensures { Decides result (Goes_on (meaning board.now) drawing.now cell after) }
+    ensures { Decides result (Goes_on (B.meaning board.now) drawing.now cell after) }
 {
     match after {
         Some(to) => !board.is_landing(cell)
@@ -72,7 +72,7 @@ fn goes_on<B: Board>(board: &B, drawing: &[Record], cell: u16, after: Option<u16
 
 // Whether a cell keeps the rules about itself and the cells that it names.
 fn fits<B: Board>(board: &B, drawing: &[Record], cell: u16) -> bool
-    ensures { Decides result (Local (meaning board.now) drawing.now cell) }
+    ensures { Decides result (Local (B.meaning board.now) drawing.now cell) }
 {
     match record_at(drawing, cell) {
         Record::Net { before, after } => begins(board, drawing, cell, before)
@@ -84,7 +84,7 @@ fn fits<B: Board>(board: &B, drawing: &[Record], cell: u16) -> bool
 
 // Whether every cell does.
 fn is_local<B: Board>(board: &B, drawing: &[Record]) -> bool
-    ensures { Decides result ((c : ℕ) → c < (meaning board.now).cells → Local (meaning board.now) drawing.now c) }
+    ensures { Decides result ((c : ℕ) → c < (B.meaning board.now).cells → Local (B.meaning board.now) drawing.now c) }
 {
     for cell in 0..board.cells() {
         if !fits(board, drawing, cell) {
@@ -109,8 +109,8 @@ fn net_cells(drawing: &[Record]) -> usize
 
 // The number of cells met by following every net from its first cell.
 fn reached_cells<B: Board>(board: &B, drawing: &[Record]) -> usize
-    requires long { length drawing.now ≡ (meaning board.now).cells }
-    requires local { (c : ℕ) → Local (meaning board.now) drawing.now c }
+    requires long { length drawing.now ≡ (B.meaning board.now).cells }
+    requires local { (c : ℕ) → Local (B.meaning board.now) drawing.now c }
     ensures { result ≡ length (flat_map (net drawing.now) (wired drawing.now)) }
 {
     let mut count = 0;
@@ -126,8 +126,8 @@ fn reached_cells<B: Board>(board: &B, drawing: &[Record]) -> usize
 
 // Whether a drawing is lawful for a board, for any records whatever. The nets of a lawful drawing link its wired pads to landings.
 pub fn is_lawful<B: Board>(board: &B, drawing: &[Record]) -> bool
-    ensures decides { Decides result (Lawful (meaning board.now) drawing.now) }
-    ensures links { result ≡ true → Linked (meaning board.now) drawing.now }
+    ensures decides { Decides result (Lawful (B.meaning board.now) drawing.now) }
+    ensures links { result ≡ true → Linked (B.meaning board.now) drawing.now }
 {
     if drawing.len() != board.cells() as usize {
         return false;

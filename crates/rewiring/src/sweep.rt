@@ -48,8 +48,8 @@ fn mark_net(drawing: &[Record], first: u16, marks: &mut [u16])
 
 // Marks the cells that are reached by following a net from its first cell, where none was marked.
 fn mark_nets<B: Board>(board: &B, drawing: &[Record], marks: &mut [u16])
-    requires long { length drawing.now ≡ (meaning board.now).cells }
-    requires local { (c : ℕ) → Local (meaning board.now) drawing.now c }
+    requires long { length drawing.now ≡ (B.meaning board.now).cells }
+    requires local { (c : ℕ) → Local (B.meaning board.now) drawing.now c }
     requires room { length drawing.now ≤ length marks.old }
     requires clean { (k : ℕ) → slice_index marks.old k ≡ 0 }
     ensures { MarksReached drawing.now marks.new }
@@ -70,7 +70,7 @@ fn is_stray(drawing: &[Record], marks: &[u16], cell: u16) -> bool
 
 // Frees the net cells without a mark.
 fn free_strays<B: Board>(board: &B, drawing: &mut [Record], marks: &[u16])
-    requires { length drawing.old ≡ (meaning board.now).cells }
+    requires { length drawing.old ≡ (B.meaning board.now).cells }
     ensures { Frees (strays drawing.old marks.now) drawing.old drawing.new }
 {
     for cell in 0..board.cells() {
@@ -82,10 +82,10 @@ fn free_strays<B: Board>(board: &B, drawing: &mut [Record], marks: &[u16])
 
 // Frees the rings of a drawing in which every rule that looks at one cell holds.
 pub fn sweep<B: Board>(board: &B, drawing: &mut [Record], marks: &mut [u16])
-    requires long { length drawing.old ≡ (meaning board.now).cells }
-    requires local { (c : ℕ) → Local (meaning board.now) drawing.old c }
+    requires long { length drawing.old ≡ (B.meaning board.now).cells }
+    requires local { (c : ℕ) → Local (B.meaning board.now) drawing.old c }
     requires room { length drawing.old ≤ length marks.old }
-    ensures { Swept (meaning board.now) drawing.old drawing.new }
+    ensures { Swept (B.meaning board.now) drawing.old drawing.new }
 {
     unmark(marks);
     mark_nets(board, drawing, marks);

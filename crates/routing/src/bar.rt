@@ -24,8 +24,8 @@ fn check_bar<B: Board>(
     report: &[u16],
     cell: u16,
 ) -> Result<(), Refusal>
-    ensures { Answer number_of (BarStopped (meaning board.now) drawing.now work.now report.now cell)
-        (λ _. Barrable (meaning board.now) drawing.now work.now report.now cell) result }
+    ensures { Answer number_of (BarStopped (B.meaning board.now) drawing.now work.now report.now cell)
+        (λ _. Barrable (B.meaning board.now) drawing.now work.now report.now cell) result }
 {
     if drawing.len() != board.cells() as usize {
         return Err(Refusal::WrongDrawing);
@@ -60,11 +60,11 @@ pub fn bar<B: Board>(
     report: &mut [u16],
     cell: u16,
 ) -> Result<u16, Refusal>
-    ensures answer { Answer number_of (BarRefused (meaning board.now) drawing.old work.old report.old cell)
-        (CellBarred (meaning board.now) drawing.old drawing.new work.old work.new report.old report.new cell) result }
+    ensures answer { Answer number_of (BarRefused (B.meaning board.now) drawing.old work.old report.old cell)
+        (CellBarred (B.meaning board.now) drawing.old drawing.new work.old work.new report.old report.new cell) result }
     ensures left { IfErr result (Leaves
         (Untouched drawing.old drawing.new work.old work.new report.old report.new)
-        (Fenced (meaning board.now) drawing.old drawing.new (cell ∷ bars drawing.old) (wired drawing.old)
+        (Fenced (B.meaning board.now) drawing.old drawing.new (cell ∷ bars drawing.old) (wired drawing.old)
         work.old work.new report.old report.new)) }
 {
     if let Err(refusal) = check_bar(board, drawing, work, report, cell) {

@@ -23,8 +23,8 @@ fn check_place<B: Board>(
     report: &[u16],
     cell: u16,
 ) -> Result<(), Refusal>
-    ensures { Answer number_of (PlaceStopped (meaning board.now) drawing.now work.now report.now cell)
-        (λ _. Placeable (meaning board.now) drawing.now work.now report.now cell) result }
+    ensures { Answer number_of (PlaceStopped (B.meaning board.now) drawing.now work.now report.now cell)
+        (λ _. Placeable (B.meaning board.now) drawing.now work.now report.now cell) result }
 {
     if drawing.len() != board.cells() as usize {
         return Err(Refusal::WrongDrawing);
@@ -62,11 +62,11 @@ pub fn place<B: Board>(
     report: &mut [u16],
     cell: u16,
 ) -> Result<u16, Refusal>
-    ensures answer { Answer number_of (PlaceRefused (meaning board.now) drawing.old work.old report.old cell)
-        (PadPlaced (meaning board.now) drawing.old drawing.new work.old work.new report.old report.new cell) result }
+    ensures answer { Answer number_of (PlaceRefused (B.meaning board.now) drawing.old work.old report.old cell)
+        (PadPlaced (B.meaning board.now) drawing.old drawing.new work.old work.new report.old report.new cell) result }
     ensures left { IfErr result (Leaves
         (Untouched drawing.old drawing.new work.old work.new report.old report.new)
-        (Fenced (meaning board.now) drawing.old drawing.new (bars drawing.old) (cell ∷ wired drawing.old)
+        (Fenced (B.meaning board.now) drawing.old drawing.new (bars drawing.old) (cell ∷ wired drawing.old)
         work.old work.new report.old report.new)) }
 {
     if let Err(refusal) = check_place(board, drawing, work, report, cell) {

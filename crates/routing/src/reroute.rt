@@ -58,16 +58,16 @@ pub fn reroute<B: Board>(
     pad: u16,
     cell: u16,
 ) -> Result<u16, (u16, u16)>
-    requires lawful { Lawful (meaning board.now) drawing.old }
-    requires entered_long { length entered.old ≡ (meaning board.now).cells }
-    requires queue_long { length queue.old ≡ (meaning board.now).cells }
-    requires from_long { length from.old ≡ (meaning board.now).cells }
-    requires spare_long { length spare.old ≡ (meaning board.now).cells }
-    requires report_long { 2 * (meaning board.now).cells ≤ length report.old }
+    requires lawful { Lawful (B.meaning board.now) drawing.old }
+    requires entered_long { length entered.old ≡ (B.meaning board.now).cells }
+    requires queue_long { length queue.old ≡ (B.meaning board.now).cells }
+    requires from_long { length from.old ≡ (B.meaning board.now).cells }
+    requires spare_long { length spare.old ≡ (B.meaning board.now).cells }
+    requires report_long { 2 * (B.meaning board.now).cells ≤ length report.old }
     requires wired { first_at drawing.old pad ≡ true }
     requires along { Mem cell (net drawing.old pad) }
     requires unwired { first_at drawing.old cell ≡ false }
-    ensures { Rerouted (meaning board.now) drawing.old drawing.new cell report.old report.new result }
+    ensures { Rerouted (B.meaning board.now) drawing.old drawing.new cell report.old report.new result }
 {
     let count = shut(drawing, pad, cell, spare);
     match route(board, drawing, entered, queue, from, spare, report, pad) {
@@ -87,12 +87,12 @@ pub fn reroute_within<B: Board>(
     report: &mut [u16],
     cell: u16,
 ) -> Result<u16, (u16, u16)>
-    requires lawful { Lawful (meaning board.now) drawing.old }
-    requires work_long { length work.old ≡ 4 * (meaning board.now).cells }
-    requires report_long { 2 * (meaning board.now).cells ≤ length report.old }
+    requires lawful { Lawful (B.meaning board.now) drawing.old }
+    requires work_long { length work.old ≡ 4 * (B.meaning board.now).cells }
+    requires report_long { 2 * (B.meaning board.now).cells ≤ length report.old }
     requires on_net { net_at drawing.old cell ≡ true }
     requires unwired { first_at drawing.old cell ≡ false }
-    ensures { Rerouted (meaning board.now) drawing.old drawing.new cell report.old report.new result }
+    ensures { Rerouted (B.meaning board.now) drawing.old drawing.new cell report.old report.new result }
 {
     let pad = first_of(drawing, cell);
     let cells = board.cells() as usize;

@@ -34,16 +34,16 @@ pub fn route<B: Board>(
     report: &mut [u16],
     pad: u16,
 ) -> Result<u16, (u16, u16)>
-    requires lawful { Lawful (meaning board.now) drawing.old }
-    requires entered_long { length entered.old ≡ (meaning board.now).cells }
-    requires queue_long { length queue.old ≡ (meaning board.now).cells }
-    requires from_long { length from.old ≡ (meaning board.now).cells }
-    requires spare_long { length spare.old ≡ (meaning board.now).cells }
-    requires report_long { 2 * (meaning board.now).cells ≤ length report.old }
-    requires is_pad { pad_at (meaning board.now) pad ≡ true }
+    requires lawful { Lawful (B.meaning board.now) drawing.old }
+    requires entered_long { length entered.old ≡ (B.meaning board.now).cells }
+    requires queue_long { length queue.old ≡ (B.meaning board.now).cells }
+    requires from_long { length from.old ≡ (B.meaning board.now).cells }
+    requires spare_long { length spare.old ≡ (B.meaning board.now).cells }
+    requires report_long { 2 * (B.meaning board.now).cells ≤ length report.old }
+    requires is_pad { pad_at (B.meaning board.now) pad ≡ true }
     requires unwired { first_at drawing.old pad ≡ false }
     requires unbarred { barred_at drawing.old pad ≡ false }
-    ensures routed { Routed (meaning board.now) drawing.old drawing.new pad report.old report.new result }
+    ensures routed { Routed (B.meaning board.now) drawing.old drawing.new pad report.old report.new result }
     ensures spared { OnErr result (spare.new ≡ spare.old) }
 {
     zero(entered);
@@ -67,13 +67,13 @@ pub fn route_within<B: Board>(
     report: &mut [u16],
     pad: u16,
 ) -> Result<u16, (u16, u16)>
-    requires lawful { Lawful (meaning board.now) drawing.old }
-    requires work_long { length work.old ≡ 4 * (meaning board.now).cells }
-    requires report_long { 2 * (meaning board.now).cells ≤ length report.old }
-    requires is_pad { pad_at (meaning board.now) pad ≡ true }
+    requires lawful { Lawful (B.meaning board.now) drawing.old }
+    requires work_long { length work.old ≡ 4 * (B.meaning board.now).cells }
+    requires report_long { 2 * (B.meaning board.now).cells ≤ length report.old }
+    requires is_pad { pad_at (B.meaning board.now) pad ≡ true }
     requires unwired { first_at drawing.old pad ≡ false }
     requires unbarred { barred_at drawing.old pad ≡ false }
-    ensures { Routed (meaning board.now) drawing.old drawing.new pad report.old report.new result }
+    ensures { Routed (B.meaning board.now) drawing.old drawing.new pad report.old report.new result }
 {
     let cells = board.cells() as usize;
     let (entered, rest) = work.split_at_mut(cells);

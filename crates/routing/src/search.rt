@@ -27,7 +27,7 @@ fn exit_of(drawing: &[Record], cell: u16) -> Option<u16>
 
 // Whether a cell is a landing that is neither barred nor on a net.
 fn is_open<B: Board>(board: &B, drawing: &[Record], cell: u16) -> bool
-    ensures { result ≡ open_at (meaning board.now) drawing.now cell }
+    ensures { result ≡ open_at (B.meaning board.now) drawing.now cell }
 {
     match record_at(drawing, cell) {
         Record::Free => board.is_landing(cell),
@@ -95,14 +95,14 @@ pub fn search<B: Board>(
     from: &mut [u16],
     start: u16,
 ) -> (Option<u16>, u16)
-    requires lawful { Lawful (meaning board.now) drawing.now }
+    requires lawful { Lawful (B.meaning board.now) drawing.now }
     requires none_entered { (c : ℕ) → slice_index entered.old c ≡ 0 }
-    requires entered_long { length entered.old ≡ (meaning board.now).cells }
-    requires queue_long { length queue.old ≡ (meaning board.now).cells }
-    requires from_long { length from.old ≡ (meaning board.now).cells }
-    requires inside { start < (meaning board.now).cells }
+    requires entered_long { length entered.old ≡ (B.meaning board.now).cells }
+    requires queue_long { length queue.old ≡ (B.meaning board.now).cells }
+    requires from_long { length from.old ≡ (B.meaning board.now).cells }
+    requires inside { start < (B.meaning board.now).cells }
     requires unbarred { barred_at drawing.now start ≡ false }
-    ensures { Ended (meaning board.now) drawing.now start
+    ensures { Ended (B.meaning board.now) drawing.now start
         (notes entered.new queue.new from.new result.1) result.0 }
 {
     let mut count = enter(entered, queue, from, 0, 0, start);

@@ -14,8 +14,8 @@ use records::refusal::Refusal;
 
 // Makes a drawing and then the calls, one after another; each call then holds its answer, and what its memory holds at the end.
 pub fn run<B: Board>(board: &B, drawing: &mut [Record], calls: &mut [Call]) -> Result<(), Refusal>
-    ensures answer { Answer number_of (NewRefused (meaning board.now) drawing.old)
-        (λ _. Ran (meaning board.now) drawing.new calls.old calls.new) result }
+    ensures answer { Answer number_of (NewRefused (B.meaning board.now) drawing.old)
+        (λ _. Ran (B.meaning board.now) drawing.new calls.old calls.new) result }
     ensures kept { OnErr result ((drawing.new ≡ drawing.old) × (calls.new ≡ calls.old)) }
 {
     new(board, drawing)?;
@@ -26,7 +26,7 @@ pub fn run<B: Board>(board: &B, drawing: &mut [Record], calls: &mut [Call]) -> R
 }
 
 fn perform<B: Board>(board: &B, drawing: &mut [Record], call: &mut Call)
-    ensures { Performed (meaning board.now) drawing.old drawing.new call.old call.new }
+    ensures { Performed (B.meaning board.now) drawing.old drawing.new call.old call.new }
 {
     let kind = call.kind;
     let cell = call.cell;

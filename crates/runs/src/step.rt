@@ -21,10 +21,10 @@ pub fn step<B: Board>(
     work: &mut [u16],
     report: &mut [u16],
 ) -> Result<u16, Refusal>
-    ensures performs { Performs (meaning board.now) kind cell drawing.old drawing.new
+    ensures performs { Performs (B.meaning board.now) kind cell drawing.old drawing.new
         work.old work.new report.old report.new result }
-    ensures claim { (h : History) → Upholds (meaning board.now) h → drawing.old ≡ stands (meaning board.now) h →
-        Claim (meaning board.now) (event kind cell drawing.old drawing.new
+    ensures claim { (h : History) → Upholds (B.meaning board.now) h → drawing.old ≡ stands (B.meaning board.now) h →
+        Claim (B.meaning board.now) (event kind cell drawing.old drawing.new
         work.old work.new report.old report.new result ∷ h) }
 {
     dispatch(board, drawing, kind, cell, work, report)
@@ -38,7 +38,7 @@ fn dispatch<B: Board>(
     work: &mut [u16],
     report: &mut [u16],
 ) -> Result<u16, Refusal>
-    ensures { Performs (meaning board.now) kind cell drawing.old drawing.new
+    ensures { Performs (B.meaning board.now) kind cell drawing.old drawing.new
         work.old work.new report.old report.new result }
 {
     match kind {

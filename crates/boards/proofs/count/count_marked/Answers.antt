@@ -18,12 +18,12 @@ loop-cell-preserved g c =
     let each = one_each m (g.met.B.Board.bounded c.args.board.now) c.args.mark in
     let i = c.loop-cell.cell in
     let h : i < length xs = omega arith in
-    elim c.if-is-marked.branch [
+    elim c.if-is_marked.branch [
       | then-is-marked w ↦
-          let k = count_by_more_yes (λ b. b) xs i false h (sym w.if-is-marked.ensures) in
+          let k = count_by_more_yes (λ b. b) xs i false h (sym w.if-is_marked.ensures) in
           (omega (arith, w.count_is), omega (arith, w.count_is, k))
       | else-is-marked w ↦
-          let k = count_by_more_no (λ b. b) xs i false h (sym w.if-is-marked.ensures) in
+          let k = count_by_more_no (λ b. b) xs i false h (sym w.if-is_marked.ensures) in
           (omega (arith, w.count_is), omega (arith, w.count_is, k))
     ]
 

@@ -4,8 +4,8 @@ use Rattle.boards.specs.MapBoards.{landing_placed, landing_unplaced}
 use Rattle.boards.specs.GridsLemmas.{grid_found}
 use Rattle.boards.proofs.field.is_landing_cell.Goals as goal
 
-pub has-landing-requires : goal.has-landing-requires
-has-landing-requires c =
+pub has_landing-requires : goal.has_landing-requires
+has_landing-requires c =
     let m = c.args.map.now in
     let on = grid_found 2 m.rows m.columns m.sides.0 m.sides.2 c.in-Some.place c.args.cell (sym c.in-Some.ensures) in
     record { row = on.row_to; column = on.column_to }
@@ -14,7 +14,7 @@ pub returns-in-Some : goal.returns-in-Some
 returns-in-Some c =
     let m = c.args.map.now in
     let bytes = vec_items m.bytes in
-    c.has-landing.ensures
+    c.has_landing.ensures
     ∙ sym (landing_placed 2 m.rows m.columns bytes field_steps (field_landing m.columns bytes) c.args.cell c.in-Some.place (sym c.in-Some.ensures))
 
 pub returns-in-None : goal.returns-in-None

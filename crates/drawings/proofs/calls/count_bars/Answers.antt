@@ -5,15 +5,15 @@ use Rattle.drawings.proofs.Counts.{count_yes, count_no, count_below}
 use Rattle.drawings.proofs.calls.count_bars.Goals as goal
 use Rattle.drawings.proofs.calls.count_bars.Goals.{then-is-barred, else-is-barred}
 
-pub overflow-add-count : goal.overflow-add-count
-overflow-add-count g c = omega (arith, count_below (barred_at c.args.drawing.now) c.loop-cell.cell)
+pub overflow_add-count : goal.overflow_add-count
+overflow_add-count g c = omega (arith, count_below (barred_at c.args.drawing.now) c.loop-cell.cell)
 
 pub loop-cell-preserved : goal.loop-cell-preserved
 loop-cell-preserved g c =
     let p = barred_at c.args.drawing.now in
     let i = c.loop-cell.cell in
-    elim c.if-is-barred.branch [
+    elim c.if-is_barred.branch [
       | then-is-barred w ↦
-          w.count_is ∙ ap (λ n. n + 1) c.loop-cell.invariant ∙ sym (count_yes p i (sym (ap is_barred c.record_at.ensures) ∙ sym w.if-is-barred.ensures))
-      | else-is-barred w ↦ w.count_is ∙ c.loop-cell.invariant ∙ sym (count_no p i (sym (ap is_barred c.record_at.ensures) ∙ sym w.if-is-barred.ensures))
+          w.count_is ∙ ap (λ n. n + 1) c.loop-cell.invariant ∙ sym (count_yes p i (sym (ap is_barred c.record_at.ensures) ∙ sym w.if-is_barred.ensures))
+      | else-is-barred w ↦ w.count_is ∙ c.loop-cell.invariant ∙ sym (count_no p i (sym (ap is_barred c.record_at.ensures) ∙ sym w.if-is_barred.ensures))
     ]

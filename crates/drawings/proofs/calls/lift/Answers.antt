@@ -11,13 +11,13 @@ returns-in-Some g c =
     let m = g.B.Board.meaning c.args.board.now in
     let d = c.args.drawing.now in
     let x = c.args.cell in
-    let W = c.is-lawful.ensures.decides.0 c.if-not-is-lawful.false in
-    let pad : pad_at m x ≡ true = sym c.if-not-is-pad.ensures in
-    let wired : first_at d x ≡ true = sym (ap is_first c.record_at.ensures) ∙ sym c.if-not-is-first.ensures in
+    let W = c.is_lawful.ensures.decides.0 c.if-not-is_lawful.false in
+    let pad : pad_at m x ≡ true = sym c.if-not-is_pad.ensures in
+    let wired : first_at d x ≡ true = sym (ap is_first c.record_at.ensures) ∙ sym c.if-not-is_first.ensures in
     record {
       answer = (
         may_lift m d x W (omega arith) pad wired,
-        lifted m d x W c.take-up.new.drawing c.in-Some.landing wired c.in-Some.ensures.answer,
+        lifted m d x W c.take_up.new.drawing c.in-Some.landing wired c.in-Some.ensures.answer,
       );
       kept = tt;
     }
@@ -27,6 +27,6 @@ returns-in-None g c =
     let m = g.B.Board.meaning c.args.board.now in
     let d = c.args.drawing.now in
     let x = c.args.cell in
-    let W = c.is-lawful.ensures.decides.0 c.if-not-is-lawful.false in
-    let wired : first_at d x ≡ true = sym (ap is_first c.record_at.ensures) ∙ sym c.if-not-is-first.ensures in
+    let W = c.is_lawful.ensures.decides.0 c.if-not-is_lawful.false in
+    let wired : first_at d x ≡ true = sym (ap is_first c.record_at.ensures) ∙ sym c.if-not-is_first.ensures in
     absurd (c.in-None.ensures.answer.0 (net d x) (net_runs m d W.local x wired))

@@ -6,8 +6,8 @@ use Rattle.drawings.proofs.Follow.{net_runs, run_short}
 use Rattle.drawings.proofs.Accepted.{may_show, shown}
 use Rattle.drawings.proofs.calls.show.Goals as goal
 
-pub overflow-cast-result : goal.overflow-cast-result
-overflow-cast-result g c =
+pub overflow_cast-result : goal.overflow_cast-result
+overflow_cast-result g c =
     let e = c.in-Some.ensures in
     omega (arith, e.1, run_short e.0, (g.met.B.Board.bounded c.args.board.now).few_cells)
 
@@ -17,13 +17,13 @@ returns-in-Some g c =
     let d = c.args.drawing.now in
     let x = c.args.cell in
     let report = c.args.report.now in
-    let W = c.is-lawful.ensures.decides.0 c.if-not-is-lawful.false in
-    let pad : pad_at m x ≡ true = sym c.if-not-is-pad.ensures in
-    let wired : first_at d x ≡ true = sym (ap is_first c.record_at.ensures) ∙ sym c.if-not-is-first.ensures in
+    let W = c.is_lawful.ensures.decides.0 c.if-not-is_lawful.false in
+    let pad : pad_at m x ≡ true = sym c.if-not-is_pad.ensures in
+    let wired : first_at d x ≡ true = sym (ap is_first c.record_at.ensures) ∙ sym c.if-not-is_first.ensures in
     record {
       answer = (
         may_show m d x W report (omega arith) (omega arith) pad wired,
-        shown m d x W report c.list-net.new.into c.in-Some.count pad c.in-Some.ensures,
+        shown m d x W report c.list_net.new.into c.in-Some.count pad c.in-Some.ensures,
       );
       kept = tt;
     }
@@ -33,7 +33,7 @@ returns-in-None g c =
     let m = g.B.Board.meaning c.args.board.now in
     let d = c.args.drawing.now in
     let x = c.args.cell in
-    let W = c.is-lawful.ensures.decides.0 c.if-not-is-lawful.false in
-    let wired : first_at d x ≡ true = sym (ap is_first c.record_at.ensures) ∙ sym c.if-not-is-first.ensures in
+    let W = c.is_lawful.ensures.decides.0 c.if-not-is_lawful.false in
+    let wired : first_at d x ≡ true = sym (ap is_first c.record_at.ensures) ∙ sym c.if-not-is_first.ensures in
     let r = net_runs m d W.local x wired in
     absurd (c.in-None.ensures.0 (net d x) r (omega (arith, run_short r)))

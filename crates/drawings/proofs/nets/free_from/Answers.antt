@@ -33,7 +33,7 @@ pub returns : goal.returns
 returns c =
     let d = c.loop-next.drawing in
     let x = c.loop-next.cell in
-    let e = net_stop d x c.loop-next.invariant.0 (sym (ap after_of c.record_at.ensures) ∙ sym c.in-default.ensures) in
+    let e = net_stop d x c.loop-next.invariant.0 (sym (ap after_of c.record_at.ensures) ∙ sym c.in_default.ensures) in
     record {
       last = sym (ap (last_of x) e) ∙ c.loop-next.invariant.1;
       frees = c.put-2.ensures ∙ sym (ap (λ zs. freed zs d) e) ∙ c.loop-next.invariant.2;

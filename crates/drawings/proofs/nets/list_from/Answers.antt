@@ -56,7 +56,7 @@ returns c =
     let d = c.args.drawing.now in
     let i = c.loop-next.count in
     let x = c.loop-next.cell in
-    let e = net_stop d x inv.0 (sym (ap after_of c.record_at.ensures) ∙ sym c.in-default.ensures) in
+    let e = net_stop d x inv.0 (sym (ap after_of c.record_at.ensures) ∙ sym c.in_default.ensures) in
     let lt : i < length zs = omega (arith, run_some inv.0, inv.1, inv.2, c.requires.room) in
     let n : i + 1 ≡ length (net d c.args.first) = omega (arith, inv.1, ap length e) in
     record {

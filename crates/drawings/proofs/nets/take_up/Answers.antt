@@ -10,8 +10,8 @@ returns-in-Some c =
     let d = c.args.drawing.now in
     let x = c.args.first in
     record {
-      answer = (c.in-Some.ensures.0, c.free-from.ensures.last, c.free-from.ensures.frees);
-      restores = λ m W p. ap (laid (net d x)) c.free-from.ensures.frees ∙ relaying_restores m d x W p;
+      answer = (c.in-Some.ensures.0, c.free_from.ensures.last, c.free_from.ensures.frees);
+      restores = λ m W p. ap (laid (net d x)) c.free_from.ensures.frees ∙ relaying_restores m d x W p;
     }
 
 pub returns-in-None : goal.returns-in-None

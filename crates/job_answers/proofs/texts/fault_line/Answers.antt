@@ -3,7 +3,7 @@ use Rattle.job_answers.proofs.texts.fault_line.Goals as goal
 
 pub returns : goal.returns
 returns c =
-    let wrote = c.in-ok-text.ensures.ok in
+    let wrote = c.in_ok-text.ensures.ok in
     let layer = c.layer-layer.ensures in
     let number = c.number-number.ensures in
-    ap vec_items c.into-bytes.ensures.value ∙ simp (wrote, layer, number, append_assoc)
+    ap vec_items c.into_bytes.ensures.value ∙ simp (wrote, layer, number, append_assoc)

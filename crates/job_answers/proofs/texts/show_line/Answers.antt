@@ -10,7 +10,7 @@ written name letters a b c d named parted lettered ended = simp (ended, lettered
 pub returns : goal.returns
 returns c =
     written _ _ _ _ _ _
-    c.in-ok-text.ensures.items
-    c.in-ok-push.ensures.items
-    c.in-ok-extend-from-slice.ensures.items
-    c.in-ok-push-2.ensures.items
+    c.in_ok-text.ensures.items
+    c.in_ok-push.ensures.items
+    c.in_ok-extend_from_slice.ensures.items
+    c.in_ok-push-2.ensures.items

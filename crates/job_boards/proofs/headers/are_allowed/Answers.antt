@@ -13,5 +13,5 @@ returns-in-Sides c = (
   λ s. absurd (refused_sides FieldMap c.args.rows c.args.columns [] c.in-Err.refusal c.in-Sides.is c.in-Err.ensures s),
 )
 
-pub returns-in-default : goal.returns-in-default
-returns-in-default c = (λ _. allowed_if_other FieldMap _ _ [] c.in-Err.refusal c.in-default.not-Sides c.in-Err.ensures, λ _. refl)
+pub returns-in_default : goal.returns-in_default
+returns-in_default c = (λ _. allowed_if_other FieldMap _ _ [] c.in-Err.refusal c.in_default.not-Sides c.in-Err.ensures, λ _. refl)

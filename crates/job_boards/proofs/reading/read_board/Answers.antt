@@ -7,8 +7,8 @@ use Rattle.job_boards.proofs.reading.read_board.Goals as goal
 
 pub loop-bytes-init : goal.loop-bytes-init
 loop-bytes-init c =
-    read_none _ _ (subst Sound (sym c.in-ok-plan.ensures) (sound_bare _ _ _ c.args.header.allowed))
+    read_none _ _ (subst Sound (sym c.in_ok-plan.ensures) (sound_bare _ _ _ c.args.header.allowed))
 
 pub loop-bytes-preserved : goal.loop-bytes-preserved
 loop-bytes-preserved c =
-    read_more _ _ _ _ (plan_of c.enter-line.new.plan) _ _ c.in-Some.more.now _ c.in-Some.ensures c.in-Ok.ensures c.loop-bytes.invariant
+    read_more _ _ _ _ (plan_of c.enter_line.new.plan) _ _ c.in-Some.more.now _ c.in-Some.ensures c.in-Ok.ensures c.loop-bytes.invariant

@@ -13,5 +13,5 @@ pub returns-in-None : goal.returns-in-None
 returns-in-None c =
     let text = c.args.text.now in
     first_of_one text _ _ (omega arith) c.in-None.ensures
-    (c.split-at.ensures.front ∙ take_all (length text) text (omega arith))
-    (c.split-at.ensures.back ∙ drop_all (length text) text (omega arith))
+    (c.split_at.ensures.front ∙ take_all (length text) text (omega arith))
+    (c.split_at.ensures.back ∙ drop_all (length text) text (omega arith))

@@ -5,8 +5,8 @@ use Rattle.job_lines.proofs.words.cut.Goals as goal
 
 pub returns-then-b-byte : goal.returns-then-b-byte
 returns-then-b-byte c =
-    let front = c.split-at.ensures.front in
-    let rest = c.split-at-then-b-byte.ensures.back in
+    let front = c.split_at.ensures.front in
+    let rest = c.split_at-then-b-byte.ensures.back in
     let whole = cut_here c.args.text.now c.args.byte c.loop-i.i c.loop-i-test.true c.if-b-byte.true in
     (rw front c.loop-i.invariant, rw (front, rest) whole)
 

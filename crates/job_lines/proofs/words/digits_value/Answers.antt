@@ -14,13 +14,13 @@ returns-then-b-lt48 c = λ ds.
       | then-b-lt48-via-else-b-lt48+then-b-gt57 w ↦ omega (arith, w.if-b-gt57.true)
     ]
 
-pub overflow-mul-sum : goal.overflow-mul-sum
-overflow-mul-sum c =
+pub overflow_mul-sum : goal.overflow_mul-sum
+overflow_mul-sum c =
     let short : length (take c.loop-b.b-index c.args.word.now) ≤ 3 = simp length-take (omega arith) in
     omega (arith, digits_value_short own (take c.loop-b.b-index c.args.word.now) 3 c.loop-b.invariant.0 short, c.loop-b.invariant.1)
 
-pub overflow-add-sum : goal.overflow-add-sum
-overflow-add-sum c =
+pub overflow_add-sum : goal.overflow_add-sum
+overflow_add-sum c =
     let short : length (take c.loop-b.b-index c.args.word.now) ≤ 3 = simp length-take (omega arith) in
     omega (arith, digits_value_short own (take c.loop-b.b-index c.args.word.now) 3 c.loop-b.invariant.0 short, c.loop-b.invariant.1)
 

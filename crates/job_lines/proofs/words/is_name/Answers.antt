@@ -4,16 +4,16 @@ use Rattle.std.proofs.lemmas.Bool.{false≢true}
 use Rattle.job_lines.specs.Words.{NameByte}
 use Rattle.job_lines.proofs.words.is_name.Goals as goal
 
-pub returns-then-not-is-name-byte : goal.returns-then-not-is-name-byte
-returns-then-not-is-name-byte c = (
+pub returns-then-not-is_name_byte : goal.returns-then-not-is_name_byte
+returns-then-not-is_name_byte c = (
   λ e. absurd (false≢true e),
   λ n.
-      c.if-not-is-name-byte.ensures.1 (All-get_or NameByte c.args.word.now c.loop-b.b-index 0 c.loop-b-test.true n.bytes),
+      c.if-not-is_name_byte.ensures.1 (All-get_or NameByte c.args.word.now c.loop-b.b-index 0 c.loop-b-test.true n.bytes),
 )
 
 pub loop-b-preserved : goal.loop-b-preserved
 loop-b-preserved c =
-    All-more NameByte c.args.word.now c.loop-b.b-index 0 c.loop-b-test.true c.loop-b.invariant (c.if-not-is-name-byte.ensures.0 refl)
+    All-more NameByte c.args.word.now c.loop-b.b-index 0 c.loop-b-test.true c.loop-b.invariant (c.if-not-is_name_byte.ensures.0 refl)
 
 pub returns : goal.returns
 returns c =

@@ -15,9 +15,9 @@ returns-then-word-eq48 c = λ n fit e.
 
 pub returns : goal.returns
 returns c =
-    number_read c.args.word.now c.digits-value.result (omega arith) (omega arith)
+    number_read c.args.word.now c.digits_value.result (omega arith) (omega arith)
     (λ long zero_first. elim c.else-word-gt1.branch [
       | else-word-gt1-via-then-word-gt1+else-word-eq48 w ↦ w.if-word-eq48.false zero_first
       | else-word-gt1-via-else-word-gt1 w ↦ omega (arith, w.if-word-gt1.false)
     ])
-    c.digits-value.ensures
+    c.digits_value.ensures

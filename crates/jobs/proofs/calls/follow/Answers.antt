@@ -11,7 +11,7 @@ returns-in-Call g c =
     let ps = g.B.PlacedBoard.places c.args.board.now in
     record {
       answered = IfOk-weaker c.answer_line.result _ _
-          (λ v e. call_answered m ps _ _ c.in-Call.kind c.args.order.place c.make-call.result (vec_items v) (ap wish_of c.in-Call.is) c.make-call.ensures.called e)
+          (λ v e. call_answered m ps _ _ c.in-Call.kind c.args.order.place c.make_call.result (vec_items v) (ap wish_of c.in-Call.is) c.make_call.ensures.called e)
           c.answer_line.ensures;
-      ready = IfOk-weaker c.answer_line.result _ _ (λ v e. c.make-call.ensures.ready) c.answer_line.ensures;
+      ready = IfOk-weaker c.answer_line.result _ _ (λ v e. c.make_call.ensures.ready) c.answer_line.ensures;
     }

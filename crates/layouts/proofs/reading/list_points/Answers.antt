@@ -23,8 +23,8 @@ cell_point ps l p c xs rest e f =
     ap (λ ys. points_on l (places_of ps ys)) f ∙ points_cons l (get_or ps c nowhere) (places_of ps rest)
     ∙ ap (λ q. points_on l (q ∷ []) ++ points_on l (places_of ps rest)) (sym e)
 
-pub note-point-count-requires : goal.note-point-count-requires
-note-point-count-requires g c = omega (arith, run_some c.loop-next.invariant.0, c.loop-next.invariant.1)
+pub note_point-count-requires : goal.note_point-count-requires
+note_point-count-requires g c = omega (arith, run_some c.loop-next.invariant.0, c.loop-next.invariant.1)
 
 pub loop-next-smaller : goal.loop-next-smaller
 loop-next-smaller g c =
@@ -38,28 +38,28 @@ loop-next-preserved g c =
     let d = c.args.drawing.now in
     let ps = g.B.PlacedBoard.places c.args.board.now in
     let l = c.args.layer in
-    let p = c.place-or-nowhere.result in
+    let p = c.place_or_nowhere.result in
     let x = c.loop-next.cell in
     let t = c.in-Some.next in
     let zs = c.loop-next.points in
-    let ys = c.note-point-count.new.points in
+    let ys = c.note_point-count.new.points in
     let i = c.loop-next.count in
-    let r = c.note-point-count.result in
-    let n = c.note-point-count.ensures in
+    let r = c.note_point-count.result in
+    let n = c.note_point-count.ensures in
     let h = net_step d x t inv.0 (sym (ap after_of c.record_at.ensures) ∙ sym c.in-Some.ensures) in
-    let long : length ys ≡ length zs = c.note-point-count.auto.points in
+    let long : length ys ≡ length zs = c.note_point-count.auto.points in
     let few = points_few l (p ∷ []) in (
       h.0,
       omega (arith, inv.1, ap length h.1, n.counted),
       long ∙ inv.2,
       ap (λ us. us ++ points_on l (places_of ps (net d t))) n.front
           ∙ append_assoc (take i zs) (points_on l (p ∷ [])) (points_on l (places_of ps (net d t)))
-          ∙ sym (ap (λ us. take i zs ++ us) (cell_point ps l p x (net d x) (net d t) c.place-or-nowhere.ensures h.1)) ∙ inv.3,
+          ∙ sym (ap (λ us. take i zs ++ us) (cell_point ps l p x (net d x) (net d t) c.place_or_nowhere.ensures h.1)) ∙ inv.3,
       back zs ys c.args.points.now i r (length (points_on l (p ∷ []))) n.counted n.back inv.4,
     )
 
-pub note-point-requires : goal.note-point-requires
-note-point-requires g c = omega (arith, run_some c.loop-next.invariant.0, c.loop-next.invariant.1)
+pub note_point-requires : goal.note_point-requires
+note_point-requires g c = omega (arith, run_some c.loop-next.invariant.0, c.loop-next.invariant.1)
 
 pub returns : goal.returns
 returns g c =
@@ -67,20 +67,20 @@ returns g c =
     let d = c.args.drawing.now in
     let ps = g.B.PlacedBoard.places c.args.board.now in
     let l = c.args.layer in
-    let p = c.place-or-nowhere-2.result in
+    let p = c.place_or_nowhere-2.result in
     let x = c.loop-next.cell in
     let zs = c.loop-next.points in
-    let ys = c.note-point.new.points in
+    let ys = c.note_point.new.points in
     let ws = c.args.points.now in
     let i = c.loop-next.count in
-    let r = c.note-point.result in
-    let n = c.note-point.ensures in
-    let e = net_stop d x inv.0 (sym (ap after_of c.record_at.ensures) ∙ sym c.in-default.ensures) in
-    let long : length ys ≡ length zs = c.note-point.auto.points in
+    let r = c.note_point.result in
+    let n = c.note_point.ensures in
+    let e = net_stop d x inv.0 (sym (ap after_of c.record_at.ensures) ∙ sym c.in_default.ensures) in
+    let long : length ys ≡ length zs = c.note_point.auto.points in
     let few = points_few l (p ∷ []) in
     let room : r ≤ length ys = omega (arith, inv.1, ap length e, n.counted) in
     let whole : take r ys ≡ points_on l (places_of ps (net d c.args.pad)) =
-    n.front ∙ sym (ap (λ us. take i zs ++ us) (cell_point ps l p x (net d x) [] c.place-or-nowhere-2.ensures e ∙ append-nil (points_on l (p ∷ [])))) ∙ inv.3 in
+    n.front ∙ sym (ap (λ us. take i zs ++ us) (cell_point ps l p x (net d x) [] c.place_or_nowhere-2.ensures e ∙ append-nil (points_on l (p ∷ [])))) ∙ inv.3 in
     let w = written_whole ys ws (points_on l (places_of ps (net d c.args.pad))) r room whole
     (back zs ys ws i r (length (points_on l (p ∷ []))) n.counted n.back inv.4) in
     record { count = w.0; writes = w.1 }

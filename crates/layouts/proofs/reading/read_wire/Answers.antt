@@ -16,43 +16,43 @@ returns-then-drawing-cells g c = record { answer = search rules; kept = search r
 pub returns-then-points-cells : goal.returns-then-points-cells
 returns-then-points-cells g c = record { answer = search rules; kept = search rules; layouts = field_layouts }
 
-pub returns-then-not-is-lawful : goal.returns-then-not-is-lawful
-returns-then-not-is-lawful g c = record { answer = search rules; kept = search rules; layouts = field_layouts }
+pub returns-then-not-is_lawful : goal.returns-then-not-is_lawful
+returns-then-not-is_lawful g c = record { answer = search rules; kept = search rules; layouts = field_layouts }
 
 pub returns-then-pad-cells : goal.returns-then-pad-cells
 returns-then-pad-cells g c = record { answer = search rules; kept = search rules; layouts = field_layouts }
 
-pub returns-then-not-is-pad : goal.returns-then-not-is-pad
-returns-then-not-is-pad g c = record { answer = search rules; kept = search rules; layouts = field_layouts }
+pub returns-then-not-is_pad : goal.returns-then-not-is_pad
+returns-then-not-is_pad g c = record { answer = search rules; kept = search rules; layouts = field_layouts }
 
-pub returns-then-not-is-first : goal.returns-then-not-is-first
-returns-then-not-is-first g c = record { answer = search rules; kept = search rules; layouts = field_layouts }
+pub returns-then-not-is_first : goal.returns-then-not-is_first
+returns-then-not-is_first g c = record { answer = search rules; kept = search rules; layouts = field_layouts }
 
-pub net-layer-layer-requires : goal.net-layer-layer-requires
-net-layer-layer-requires g c =
+pub net_layer-layer-requires : goal.net_layer-layer-requires
+net_layer-layer-requires g c =
     let d = c.args.drawing.now in
-    let W = c.is-lawful.ensures.decides.0 c.if-not-is-lawful.false in
-    let wired : first_at d c.args.pad ≡ true = sym (ap is_first c.record_at.ensures) ∙ sym c.if-not-is-first.ensures in
+    let W = c.is_lawful.ensures.decides.0 c.if-not-is_lawful.false in
+    let wired : first_at d c.args.pad ≡ true = sym (ap is_first c.record_at.ensures) ∙ sym c.if-not-is_first.ensures in
     net_runs (g.B.Board.meaning c.args.board.now) d W.local c.args.pad wired
 
-pub list-points-count-requires : goal.list-points-count-requires
-list-points-count-requires g c =
+pub list_points-count-requires : goal.list_points-count-requires
+list_points-count-requires g c =
     let d = c.args.drawing.now in
-    let W = c.is-lawful.ensures.decides.0 c.if-not-is-lawful.false in
-    let wired : first_at d c.args.pad ≡ true = sym (ap is_first c.record_at.ensures) ∙ sym c.if-not-is-first.ensures in
+    let W = c.is_lawful.ensures.decides.0 c.if-not-is_lawful.false in
+    let wired : first_at d c.args.pad ≡ true = sym (ap is_first c.record_at.ensures) ∙ sym c.if-not-is_first.ensures in
     let r = net_runs (g.B.Board.meaning c.args.board.now) d W.local c.args.pad wired in
     record { runs = r; room = omega (arith, run_short r) }
 
-pub overflow-cast-result : goal.overflow-cast-result
-overflow-cast-result g c =
+pub overflow_cast-result : goal.overflow_cast-result
+overflow_cast-result g c =
     let d = c.args.drawing.now in
     let ps = g.B.PlacedBoard.places c.args.board.now in
-    let W = c.is-lawful.ensures.decides.0 c.if-not-is-lawful.false in
-    let wired : first_at d c.args.pad ≡ true = sym (ap is_first c.record_at.ensures) ∙ sym c.if-not-is-first.ensures in
+    let W = c.is_lawful.ensures.decides.0 c.if-not-is_lawful.false in
+    let wired : first_at d c.args.pad ≡ true = sym (ap is_first c.record_at.ensures) ∙ sym c.if-not-is_first.ensures in
     let r = net_runs (g.B.Board.meaning c.args.board.now) d W.local c.args.pad wired in
-    let few = points_few c.net-layer-layer.result (places_of ps (net d c.args.pad)) in
+    let few = points_few c.net_layer-layer.result (places_of ps (net d c.args.pad)) in
     let long = length-map (net d c.args.pad) (λ (x : ℕ). get_or ps x nowhere) in
-    omega (arith, run_short r, c.list-points-count.ensures.count, (g.met.B.Board.bounded c.args.board.now).few_cells)
+    omega (arith, run_short r, c.list_points-count.ensures.count, (g.met.B.Board.bounded c.args.board.now).few_cells)
 
 pub returns : goal.returns
 returns g c =
@@ -60,11 +60,11 @@ returns g c =
     let m = g.B.Board.meaning c.args.board.now in
     let ps = g.B.PlacedBoard.places c.args.board.now in
     let qs = places_of ps (net d c.args.pad) in
-    let W = c.is-lawful.ensures.decides.0 c.if-not-is-lawful.false in
-    let pad : pad_at m c.args.pad ≡ true = sym c.if-not-is-pad.ensures in
-    let wired : first_at d c.args.pad ≡ true = sym (ap is_first c.record_at.ensures) ∙ sym c.if-not-is-first.ensures in
-    let l = c.net-layer-layer.ensures in
-    let e = c.list-points-count.ensures in
+    let W = c.is_lawful.ensures.decides.0 c.if-not-is_lawful.false in
+    let pad : pad_at m c.args.pad ≡ true = sym c.if-not-is_pad.ensures in
+    let wired : first_at d c.args.pad ≡ true = sym (ap is_first c.record_at.ensures) ∙ sym c.if-not-is_first.ensures in
+    let l = c.net_layer-layer.ensures in
+    let e = c.list_points-count.ensures in
     record {
       answer = (
         may_read m d c.args.points.now c.args.pad W (omega arith) (omega arith) pad wired,

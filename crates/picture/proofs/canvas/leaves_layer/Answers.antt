@@ -7,7 +7,7 @@ use Rattle.picture.proofs.canvas.leaves_layer.Goals as goal
 pub loop-j-preserved : goal.loop-j-preserved
 loop-j-preserved g c =
     below_more _ _ c.loop-j.invariant
-    (λ d q e f n. false≢true (c.if-is-elsewhere.ensures.1 (d, q, c.outlet.ensures ∙ e, f, n)))
+    (λ d q e f n. false≢true (c.if-is_elsewhere.ensures.1 (d, q, c.outlet.ensures ∙ e, f, n)))
 
 pub returns : goal.returns
 returns g c =

@@ -11,7 +11,7 @@ loop-byte-preserved c =
     let x = get_or row i 0 in
     let added = ap (map value) more ∙ map-append value (take i row) (x ∷ []) in (
       below_more _ _ c.loop-byte.invariant.0 (omega arith, omega arith),
-      c.in-ok-push.ensures.items
+      c.in_ok-push.ensures.items
           ∙ ap (λ xs. xs ++ value x ∷ []) c.loop-byte.invariant.1
           ∙ append_assoc (vec_items c.args.bytes.now) (map value (take i row)) (value x ∷ [])
           ∙ ap (λ xs. vec_items c.args.bytes.now ++ xs) (sym added),

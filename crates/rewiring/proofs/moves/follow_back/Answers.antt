@@ -15,7 +15,7 @@ loop-i-preserved c =
     let ts = c.args.trail.now in
     let i = c.loop-i.i in (
       omega (arith, c.loop-i.invariant.0),
-      λ m d p z e W T. subst (λ (f : List Record). BackTo m d z f ts (i - 1)) (sym c.take-back.ensures)
+      λ m d p z e W T. subst (λ (f : List Record). BackTo m d z f ts (i - 1)) (sym c.take_back.ensures)
           (back_once m d p z ts T W c.loop-i.drawing i (omega arith) (c.loop-i.invariant.1 m d p z e W T)),
     )
 

@@ -4,15 +4,15 @@ use Rattle.drawings.specs.Nets.{wired, used}
 use Rattle.rewiring.proofs.Courses.{some_cells}
 use Rattle.rewiring.proofs.rewire.rewire.Goals as goal
 
-pub follow-back-requires : goal.follow-back-requires
-follow-back-requires g c =
+pub follow_back-requires : goal.follow_back-requires
+follow_back-requires g c =
     let t = c.requires.trail in
     some_cells (g.B.Board.meaning c.args.board.now) c.args.drawing.now t.0 t.1.0 c.args.trail.now t.1.1
 
 pub sweep-requires : goal.sweep-requires
 sweep-requires g c =
     let t = c.requires.trail in
-    let O = c.follow-back.ensures (g.B.Board.meaning c.args.board.now) t.0 t.1.0 c.requires.lawful t.1.1 in
+    let O = c.follow_back.ensures (g.B.Board.meaning c.args.board.now) t.0 t.1.0 c.requires.lawful t.1.1 in
     record {
       long = O.long ∙ c.requires.lawful.one_each;
       local = O.local;
@@ -23,7 +23,7 @@ pub returns : goal.returns
 returns g c p z t =
     let m = g.B.Board.meaning c.args.board.now in
     let d = c.args.drawing.now in
-    let O = c.follow-back.ensures m p z c.requires.lawful t in
+    let O = c.follow_back.ensures m p z c.requires.lawful t in
     let S = c.sweep.ensures in
     record {
       lawful = S.lawful;

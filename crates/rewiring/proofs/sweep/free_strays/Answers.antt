@@ -20,11 +20,11 @@ loop-cell-preserved g c =
     let i = c.loop-cell.cell in
     let p = is_stray d marks in
     let same : p i ≡ is_stray e marks i = ap (λ r. is_net r && not (eqb (get_or marks i 0) 1)) (sym (next_same p d e i c.loop-cell.invariant)) in
-    elim c.if-is-stray.branch [
+    elim c.if-is_stray.branch [
       | then-is-stray w ↦
           subst (λ (f : List Record). Frees (filter p (range_with_len 0 (i + 1))) d f) (sym (w.drawing-is ∙ w.put.ensures))
-          (free_next p d e i c.loop-cell.invariant (same ∙ sym w.if-is-stray.ensures))
+          (free_next p d e i c.loop-cell.invariant (same ∙ sym w.if-is_stray.ensures))
       | else-is-stray w ↦
           subst (λ (f : List Record). Frees (filter p (range_with_len 0 (i + 1))) d f) (sym w.drawing-is)
-          (pass_next p d e i c.loop-cell.invariant (same ∙ sym w.if-is-stray.ensures))
+          (pass_next p d e i c.loop-cell.invariant (same ∙ sym w.if-is_stray.ensures))
     ]

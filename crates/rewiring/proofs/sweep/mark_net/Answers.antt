@@ -23,5 +23,5 @@ loop-next-preserved c =
 pub returns : goal.returns
 returns c =
     let x = c.loop-next.cell in
-    let e = net_stop c.args.drawing.now x c.loop-next.invariant.0 (sym (ap after_of c.record_at.ensures) ∙ sym c.in-default.ensures) in
+    let e = net_stop c.args.drawing.now x c.loop-next.invariant.0 (sym (ap after_of c.record_at.ensures) ∙ sym c.in_default.ensures) in
     c.mark-2.ensures ∙ sym (ap (λ (zs : List ℕ). marked zs c.loop-next.marks) e) ∙ c.loop-next.invariant.1

@@ -9,23 +9,23 @@ pub loop-cell-init : goal.loop-cell-init
 loop-cell-init g c =
     none_marked (g.B.Board.meaning c.args.board.now) c.args.drawing.now c.requires.local c.args.marks.now c.requires.room c.requires.clean
 
-pub mark-net-requires : goal.mark-net-requires
-mark-net-requires g c =
+pub mark_net-requires : goal.mark_net-requires
+mark_net-requires g c =
     net_runs (g.B.Board.meaning c.args.board.now) c.args.drawing.now c.requires.local c.loop-cell.cell
-    (sym (ap is_first c.record_at.ensures) ∙ sym c.if-is-first.ensures)
+    (sym (ap is_first c.record_at.ensures) ∙ sym c.if-is_first.ensures)
 
 pub loop-cell-preserved : goal.loop-cell-preserved
 loop-cell-preserved g c =
     let m = g.B.Board.meaning c.args.board.now in
     let d = c.args.drawing.now in
     let i = c.loop-cell.cell in
-    elim c.if-is-first.branch [
+    elim c.if-is_first.branch [
       | then-is-first w ↦
-          subst (λ (xs : List ℕ). MarkedBelow d xs (i + 1)) (sym (w.marks-is ∙ w.mark-net.ensures))
-          (mark_first m d c.requires.local c.loop-cell.marks i (sym (ap is_first c.record_at.ensures) ∙ sym w.if-is-first.ensures) c.loop-cell.invariant)
+          subst (λ (xs : List ℕ). MarkedBelow d xs (i + 1)) (sym (w.marks-is ∙ w.mark_net.ensures))
+          (mark_first m d c.requires.local c.loop-cell.marks i (sym (ap is_first c.record_at.ensures) ∙ sym w.if-is_first.ensures) c.loop-cell.invariant)
       | else-is-first w ↦
           subst (λ (xs : List ℕ). MarkedBelow d xs (i + 1)) (sym w.marks-is)
-          (mark_other m d c.requires.local c.loop-cell.marks i (sym (ap is_first c.record_at.ensures) ∙ sym w.if-is-first.ensures) c.loop-cell.invariant)
+          (mark_other m d c.requires.local c.loop-cell.marks i (sym (ap is_first c.record_at.ensures) ∙ sym w.if-is_first.ensures) c.loop-cell.invariant)
     ]
 
 pub returns : goal.returns

@@ -5,17 +5,17 @@ use Rattle.routing.proofs.Listing.{listed_more, listed_same}
 use Rattle.routing.proofs.fence.write_pads.Goals as goal
 use Rattle.routing.proofs.fence.write_pads.Goals.{then-shows-pad, else-shows-pad}
 
-pub overflow-cast-into : goal.overflow-cast-into
-overflow-cast-into c = let h = count_below (shows_pad c.args.drawing.now c.args.entered.now c.args.start) c.loop-cell.cell in omega (arith, c.loop-cell.invariant.0)
+pub overflow_cast-into : goal.overflow_cast-into
+overflow_cast-into c = let h = count_below (shows_pad c.args.drawing.now c.args.entered.now c.args.start) c.loop-cell.cell in omega (arith, c.loop-cell.invariant.0)
 
-pub offset-bounds-into-count : goal.offset-bounds-into-count
-offset-bounds-into-count c = let h = count_below (shows_pad c.args.drawing.now c.args.entered.now c.args.start) c.loop-cell.cell in omega (arith, c.loop-cell.invariant.0)
+pub offset_bounds-into-count : goal.offset_bounds-into-count
+offset_bounds-into-count c = let h = count_below (shows_pad c.args.drawing.now c.args.entered.now c.args.start) c.loop-cell.cell in omega (arith, c.loop-cell.invariant.0)
 
 pub bounds-into-count : goal.bounds-into-count
 bounds-into-count c = let h = count_below (shows_pad c.args.drawing.now c.args.entered.now c.args.start) c.loop-cell.cell in omega (arith, c.loop-cell.invariant.0, c.loop-cell.auto.into, c.requires.room)
 
-pub overflow-add-count : goal.overflow-add-count
-overflow-add-count c = let h = count_below (shows_pad c.args.drawing.now c.args.entered.now c.args.start) c.loop-cell.cell in omega (arith, c.loop-cell.invariant.0)
+pub overflow_add-count : goal.overflow_add-count
+overflow_add-count c = let h = count_below (shows_pad c.args.drawing.now c.args.entered.now c.args.start) c.loop-cell.cell in omega (arith, c.loop-cell.invariant.0)
 
 pub loop-cell-preserved : goal.loop-cell-preserved
 loop-cell-preserved c =
@@ -23,12 +23,12 @@ loop-cell-preserved c =
     let x = c.loop-cell.cell in
     let inv = c.loop-cell.invariant in
     let h = count_below p x in
-    elim c.if-shows-pad.branch [
+    elim c.if-shows_pad.branch [
       | then-shows-pad w ↦
-          let e = listed_more p x c.args.into.now c.loop-cell.into c.loop-cell.count inv.0 inv.1 (sym w.if-shows-pad.ensures)
+          let e = listed_more p x c.args.into.now c.loop-cell.into c.loop-cell.count inv.0 inv.1 (sym w.if-shows_pad.ensures)
           (omega (arith, inv.0, c.requires.room)) in
           (w.count_is ∙ e.0, w.into-is ∙ e.1)
       | else-shows-pad w ↦
-          let e = listed_same p x c.args.into.now c.loop-cell.into c.loop-cell.count inv.0 inv.1 (sym w.if-shows-pad.ensures) in
+          let e = listed_same p x c.args.into.now c.loop-cell.into c.loop-cell.count inv.0 inv.1 (sym w.if-shows_pad.ensures) in
           (w.count_is ∙ e.0, w.into-is ∙ e.1)
     ]

@@ -11,7 +11,7 @@ use Rattle.routing.proofs.reroute.reroute.Goals as goal
 pub shut-count-requires : goal.shut-count-requires
 shut-count-requires g c = record {
   runs = pad_runs (g.B.Board.meaning c.args.board.now) c.args.drawing.now c.args.pad c.args.cell c.requires.lawful c.requires.wired c.requires.along;
-  room = omega (arith, c.requires.spare-long, c.requires.lawful.one_each);
+  room = omega (arith, c.requires.spare_long, c.requires.lawful.one_each);
 }
 
 pub route-requires : goal.route-requires
@@ -26,7 +26,7 @@ route-requires g c =
       entered_long = c.requires.entered_long;
       queue_long = c.requires.queue_long;
       from_long = c.requires.from_long;
-      spare-long = omega (arith, c.shut-count.auto.saved, c.requires.spare-long);
+      spare_long = omega (arith, c.shut-count.auto.saved, c.requires.spare_long);
       report_long = c.requires.report_long;
       is_pad = (c.requires.lawful.local q).first_is_pad c.requires.wired;
       unwired = subst (λ D. first_at D q ≡ false) e (q_unwired m d q x c.requires.lawful c.requires.wired c.requires.along c.requires.unwired);

@@ -23,13 +23,13 @@ returns c =
     let d = c.args.drawing.now in
     let q = c.args.pad in
     let r = c.requires.runs in
-    let count : c.match-list-net.count ≡ length (net d q) = elim c.match-list-net.branch [
+    let count : c.match-list_net.count ≡ length (net d q) = elim c.match-list_net.branch [
       | in-Some w ↦ w.count_is ∙ w.in-Some.ensures.1
       | in-None w ↦ absurd (w.in-None.ensures.0 (net d q) r (omega (arith, run_short r, c.requires.room)))
     ] in
     record {
       count = count;
       short = omega (arith, count, run_short r, c.requires.room);
-      saves = listed d q c.args.saved.now c.list-net.new.into c.list-net.result r c.requires.room c.list-net.ensures;
-      bars = c.put.ensures ∙ ap (λ e. set e c.args.cell Barred) (took d c.take-up.new.drawing q c.take-up.result r c.take-up.ensures.answer);
+      saves = listed d q c.args.saved.now c.list_net.new.into c.list_net.result r c.requires.room c.list_net.ensures;
+      bars = c.put.ensures ∙ ap (λ e. set e c.args.cell Barred) (took d c.take_up.new.drawing q c.take_up.result r c.take_up.ensures.answer);
     }

@@ -10,7 +10,7 @@ search-found-requires g c =
     let B = g.met.B.Board.bounded c.args.board.now in
     record {
       lawful = c.requires.lawful;
-      none-entered = λ k. ap (λ xs. get_or xs k 0) c.zero.ensures ∙ zero_at (length c.args.entered.now) k;
+      none_entered = λ k. ap (λ xs. get_or xs k 0) c.zero.ensures ∙ zero_at (length c.args.entered.now) k;
       entered_long = omega (arith, c.zero.auto.numbers, c.requires.entered_long);
       queue_long = c.requires.queue_long;
       from_long = c.requires.from_long;
@@ -67,8 +67,8 @@ returns-in-None g c =
       routed = (
         refl,
         fence_shown m d p c.requires.is_pad c.requires.unwired (g.met.B.Board.bounded c.args.board.now) c.requires.lawful c.requires.unbarred E F
-            c.args.report.now c.write-fence.new.report c.write-fence.result.0 c.write-fence.result.1
-            c.write-fence.ensures.pads c.write-fence.ensures.cells c.write-fence.ensures.writes,
+            c.args.report.now c.write_fence.new.report c.write_fence.result.0 c.write_fence.result.1
+            c.write_fence.ensures.pads c.write_fence.ensures.cells c.write_fence.ensures.writes,
       );
       spared = refl;
     }

@@ -5,10 +5,10 @@ use Rattle.routing.specs.Searches.{Notes, notes, visited, Waiting, Scanning, Cam
 use Rattle.routing.proofs.Noting.{same_notes, room}
 use Rattle.routing.proofs.Scans.{begins, came_at_once, scan_begins, scan_more, scan_past, scan_came, scan_ends, wait_past, wait_ends}
 use Rattle.routing.proofs.search.search.Goals as goal
-use Rattle.routing.proofs.search.search.Goals.{in-Some-outlet+else-is-open-2, in-default-outlet, in-Some+else-loop-j-test, in-default}
+use Rattle.routing.proofs.search.search.Goals.{in-Some-outlet+else-is_open-2, in-default-outlet, in-Some+else-loop-j-test, in-default}
 
-pub returns-then-is-open : goal.returns-then-is-open
-returns-then-is-open g c =
+pub returns-then-is_open : goal.returns-then-is_open
+returns-then-is_open g c =
     let m = g.B.Board.meaning c.args.board.now in
     let d = c.args.drawing.now in
     let p = c.args.start in
@@ -16,7 +16,7 @@ returns-then-is-open g c =
     subst (λ s. Came m d p s p) (sym c.enter-count.ensures)
     (came_at_once m (g.met.B.Board.bounded c.args.board.now) d c.requires.lawful p c.args.entered.now c.args.queue.now c.args.from.now
     (omega (arith, c.requires.entered_long, one)) (omega (arith, c.requires.queue_long, one)) (omega (arith, c.requires.from_long, one))
-    c.requires.none-entered (omega (arith, c.requires.inside, one)) c.requires.unbarred (sym c.if-is-open.ensures))
+    c.requires.none_entered (omega (arith, c.requires.inside, one)) c.requires.unbarred (sym c.if-is_open.ensures))
 
 pub search-init : goal.search-init
 search-init g c =
@@ -27,7 +27,7 @@ search-init g c =
     subst (λ s. Waiting m d p s 0) (sym c.enter-count.ensures)
     (begins m (g.met.B.Board.bounded c.args.board.now) d c.requires.lawful p c.args.entered.now c.args.queue.now c.args.from.now
     (omega (arith, c.requires.entered_long, one)) (omega (arith, c.requires.queue_long, one)) (omega (arith, c.requires.from_long, one))
-    c.requires.none-entered (omega (arith, c.requires.inside, one)) c.requires.unbarred (sym c.if-is-open.ensures))
+    c.requires.none_entered (omega (arith, c.requires.inside, one)) c.requires.unbarred (sym c.if-is_open.ensures))
 
 pub visit-count-requires : goal.visit-count-requires
 visit-count-requires g c =
@@ -86,13 +86,13 @@ loop-j-preserved g c =
     let u = c.in-Some.exit in
     let j = c.loop-j.j in
     elim c.match-outlet.branch [
-      | in-Some-outlet+else-is-open-2 w ↦
+      | in-Some-outlet+else-is_open-2 w ↦
           let o = sym w.in-Some-outlet.ensures in
           let x = w.in-Some-outlet.cell in
           let l : x < length d = omega (arith, outlet_inside B u j x o, c.requires.lawful.one_each) in
           let e : notes c.match-outlet.entered c.match-outlet.queue c.match-outlet.from c.match-outlet.count ≡ visited d s k x =
           same_notes w.entered-is w.queue-is w.from-is w.count_is ∙ w.visit-count-in-Some-outlet.ensures in
-          subst (λ t. Scanning m d p t k u (j + 1)) (sym e) (scan_more m B d c.requires.lawful p s k u j c.loop-j.invariant x o l (sym w.if-is-open-2.ensures))
+          subst (λ t. Scanning m d p t k u (j + 1)) (sym e) (scan_more m B d c.requires.lawful p s k u j c.loop-j.invariant x o l (sym w.if-is_open-2.ensures))
       | in-default-outlet w ↦
           let e : notes c.match-outlet.entered c.match-outlet.queue c.match-outlet.from c.match-outlet.count ≡ s =
           same_notes w.entered-is w.queue-is w.from-is w.count_is in
@@ -106,18 +106,18 @@ search-preserved g c =
     let p = c.args.start in
     let B = g.met.B.Board.bounded c.args.board.now in
     let k = c.search.at in
-    elim c.match-exit-of.branch [
+    elim c.match-exit_of.branch [
       | in-Some+else-loop-j-test w ↦
           let s = notes w.loop-j.entered w.loop-j.queue w.loop-j.from w.loop-j.count in
           let u = w.in-Some.exit in
-          let e : notes c.match-exit-of.entered c.match-exit-of.queue c.match-exit-of.from c.match-exit-of.count ≡ s =
+          let e : notes c.match-exit_of.entered c.match-exit_of.queue c.match-exit_of.from c.match-exit_of.count ≡ s =
           same_notes w.entered-is w.queue-is w.from-is w.count_is in
           let all : w.loop-j.j ≡ 8 = omega (arith, w.loop-j-test.false, w.loop-j.auto.j-end) in
           subst (λ t. Waiting m d p t (k + 1)) (sym e)
           (scan_ends m B d c.requires.lawful p s k u (subst (λ v. Scanning m d p s k u v) all w.loop-j.invariant))
       | in-default w ↦
           let s = notes c.search.entered c.search.queue c.search.from c.search.count in
-          let e : notes c.match-exit-of.entered c.match-exit-of.queue c.match-exit-of.from c.match-exit-of.count ≡ s =
+          let e : notes c.match-exit_of.entered c.match-exit_of.queue c.match-exit_of.from c.match-exit_of.count ≡ s =
           same_notes w.entered-is w.queue-is w.from-is w.count_is in
           subst (λ t. Waiting m d p t (k + 1)) (sym e)
           (wait_past m B d c.requires.lawful p s k c.search.invariant c.if-at-count.false (sym w.in-default.ensures))
@@ -128,8 +128,8 @@ returns-then-at-count g c =
     wait_ends (g.B.Board.meaning c.args.board.now) (g.met.B.Board.bounded c.args.board.now) c.args.drawing.now c.requires.lawful c.args.start
     (notes c.search.entered c.search.queue c.search.from c.search.count) c.search.at c.search.invariant c.if-at-count.true
 
-pub returns-then-is-open-2 : goal.returns-then-is-open-2
-returns-then-is-open-2 g c =
+pub returns-then-is_open-2 : goal.returns-then-is_open-2
+returns-then-is_open-2 g c =
     let m = g.B.Board.meaning c.args.board.now in
     let d = c.args.drawing.now in
     let p = c.args.start in
@@ -141,4 +141,4 @@ returns-then-is-open-2 g c =
     let o = sym c.in-Some-outlet.ensures in
     let l : x < length d = omega (arith, outlet_inside B u j x o, c.requires.lawful.one_each) in
     subst (λ t. Came m d p t x) (sym c.visit-count-in-Some-outlet.ensures)
-    (scan_came m B d c.requires.lawful p s c.search.at u j c.loop-j.invariant x o l (sym c.if-is-open-2.ensures))
+    (scan_came m B d c.requires.lawful p s c.search.at u j c.loop-j.invariant x o l (sym c.if-is_open-2.ensures))

@@ -12,9 +12,9 @@ returns g c =
       answer = c.step-answer.result;
       answered = refl;
       performs = performs_same (g.B.Board.meaning c.args.board.now) call.kind call.cell c.args.drawing.now c.step-answer.new.drawing c.step-answer.result
-          c.as-mut-slice.ensures.value
-          (sym (with_items_is call.work c.step-answer.new.work (omega (arith, c.step-answer.auto.work, c.as-mut-slice.ensures.len))))
-          c.as-mut-slice-2.ensures.value
-          (sym (with_items_is call.report c.step-answer.new.report (omega (arith, c.step-answer.auto.report, c.as-mut-slice-2.ensures.len))))
+          c.as_mut_slice.ensures.value
+          (sym (with_items_is call.work c.step-answer.new.work (omega (arith, c.step-answer.auto.work, c.as_mut_slice.ensures.len))))
+          c.as_mut_slice-2.ensures.value
+          (sym (with_items_is call.report c.step-answer.new.report (omega (arith, c.step-answer.auto.report, c.as_mut_slice-2.ensures.len))))
           c.step-answer.ensures.performs;
     }

@@ -7,7 +7,7 @@ use Rattle.runs.proofs.run.run.Goals as goal
 pub loop-i-init : goal.loop-i-init
 loop-i-init g c = (
   refl,
-  ([], tt, fresh (g.B.Board.meaning c.args.board.now) c.new.new.drawing c.in-ok-new.field-0 c.in-ok-new.ensures.answer.1, nothing),
+  ([], tt, fresh (g.B.Board.meaning c.args.board.now) c.new.new.drawing c.in_ok-new.field-0 c.in_ok-new.ensures.answer.1, nothing),
   λ k d h. refl,
 )
 
@@ -39,7 +39,7 @@ returns g c =
     let all : c.loop-i.i ≡ length c.args.calls.now = omega (arith, c.loop-i.auto.i-end) in
     record {
       answer = (
-        c.in-ok-new.ensures.answer.0,
+        c.in_ok-new.ensures.answer.0,
         record {
           history = inv.1.0;
           told = subst (λ (k : ℕ). Told c.args.calls.now c.loop-i.calls k inv.1.0) all inv.1.3;

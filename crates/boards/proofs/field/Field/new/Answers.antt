@@ -8,5 +8,5 @@ use Rattle.boards.proofs.field.Field.new.Goals as goal
 pub returns : goal.returns
 returns c = record {
   made = made_from FieldMap c.args.rows c.args.columns (vec_items c.args.bytes) field (λ R C bytes. grid_places 2 R C) _ c.accepted.ensures;
-  no-way-in = held_no_way_in 2 field_steps (λ R C bytes. field_landing C bytes) (omega arith) (omega arith) (omega arith) c.accepted.result;
+  no_way_in = held_no_way_in 2 field_steps (λ R C bytes. field_landing C bytes) (omega arith) (omega arith) (omega arith) c.accepted.result;
 }

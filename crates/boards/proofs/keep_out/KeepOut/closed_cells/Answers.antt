@@ -4,8 +4,8 @@ use Rattle.std.proofs.lemmas.List.Sums.{sum_by_more}
 use Rattle.boards.proofs.Masks.{ones_closed}
 use Rattle.boards.proofs.keep_out.KeepOut.closed_cells.Goals as goal
 
-pub overflow-add-sum : goal.overflow-add-sum
-overflow-add-sum g c =
+pub overflow_add-sum : goal.overflow_add-sum
+overflow_add-sum g c =
     let x = get_or c.args.self.now.mask c.loop-i.i 0 in
     let h : x < 2 ^ 64 = search rules in
     let k : ones x ≤ 64 = ones-le 64 x h in

@@ -4,16 +4,16 @@ use Rattle.boards.specs.KeepOuts.{is_closed}
 use Rattle.boards.specs.Kept.{kept_landing}
 use Rattle.boards.proofs.keep_out.KeepOutBoard.is_landing.Goals as goal
 
-pub returns-then-not-is-closed : goal.returns-then-not-is-closed
-returns-then-not-is-closed g c =
+pub returns-then-not-is_closed : goal.returns-then-not-is_closed
+returns-then-not-is_closed g c =
     let b = c.args.self.now.board in
     let m = g.B.Board.meaning b in
     let e = kept_landing (is_closed c.args.self.now.mask) m (g.met.B.Board.bounded b) c.args.cell in
-    c.is_landing.ensures ∙ sym (e ∙ ap (λ t. not t && landing_at m c.args.cell) (sym c.if-not-is-closed.ensures))
+    c.is_landing.ensures ∙ sym (e ∙ ap (λ t. not t && landing_at m c.args.cell) (sym c.if-not-is_closed.ensures))
 
-pub returns-else-not-is-closed : goal.returns-else-not-is-closed
-returns-else-not-is-closed g c =
+pub returns-else-not-is_closed : goal.returns-else-not-is_closed
+returns-else-not-is_closed g c =
     let b = c.args.self.now.board in
     let m = g.B.Board.meaning b in
     let e = kept_landing (is_closed c.args.self.now.mask) m (g.met.B.Board.bounded b) c.args.cell in
-    ap not c.if-not-is-closed.false ∙ sym (e ∙ ap (λ t. not t && landing_at m c.args.cell) (sym c.if-not-is-closed.ensures))
+    ap not c.if-not-is_closed.false ∙ sym (e ∙ ap (λ t. not t && landing_at m c.args.cell) (sym c.if-not-is_closed.ensures))

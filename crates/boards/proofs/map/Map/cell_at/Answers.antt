@@ -5,8 +5,8 @@ use Rattle.boards.specs.Grids.{grid_places}
 use Rattle.boards.specs.GridsLemmas.{cell_below, grid_finds, grid_found}
 use Rattle.boards.proofs.map.Map.cell_at.Goals as goal
 
-pub cell-of-requires : goal.cell-of-requires
-cell-of-requires c =
+pub cell_of-requires : goal.cell_of-requires
+cell_of-requires c =
     let m = c.args.self.now in
     let on = c.if-has.ensures.0 refl in
     let b = cell_below m.rows m.columns m.sides.0 m.sides.2 c.args.layers c.args.place on in

@@ -2,17 +2,17 @@ use Rattle.std.proofs.Common.{sym, arith, rules}
 use Rattle.boards.specs.GridsLemmas.{cell_below, beside_leads}
 use Rattle.boards.proofs.map.Map.way.Goals as goal
 
-pub way-to-requires : goal.way-to-requires
-way-to-requires c =
+pub way_to-requires : goal.way_to-requires
+way_to-requires c =
     let m = c.args.self.now in
     let on = c.requires.on_grid in
     let to = (beside_leads c.args.layers m.rows m.columns c.args.from c.in-Some.to on c.args.step (sym c.in-Some.ensures)).0 in
     let b = cell_below m.rows m.columns m.sides.0 m.sides.2 c.args.layers c.in-Some.to to in
     record {
       from_row = on.row_to;
-      from-column = on.column_to;
+      from_column = on.column_to;
       to_row = to.row_to;
-      to-column = to.column_to;
-      to-layer = to.layer_from;
+      to_column = to.column_to;
+      to_layer = to.layer_from;
       fits = omega (arith, c.requires.fits);
     }
