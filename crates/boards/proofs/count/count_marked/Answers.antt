@@ -5,7 +5,7 @@ use Rattle.boards.specs.declared.count.Mark.TheVariants.{Pad, Landing}
 use Rattle.boards.specs.Meaning.{Meaning, Bounded}
 use Rattle.boards.specs.Counts.{marks}
 use Rattle.boards.proofs.count.count_marked.Goals as goal
-use Rattle.boards.proofs.count.count_marked.Goals.{then-is-marked, else-is-marked}
+use Rattle.boards.proofs.count.count_marked.Goals.{then-is_marked, else-is_marked}
 
 one_each : (m : Meaning) → Bounded m → (mark : Mark) → length (marks m mark) ≡ m.cells
 one_each m b Pad = b.pads_length
@@ -19,12 +19,12 @@ loop-cell-preserved g c =
     let i = c.loop-cell.cell in
     let h : i < length xs = omega arith in
     elim c.if-is_marked.branch [
-      | then-is-marked w ↦
+      | then-is_marked w ↦
           let k = count_by_more_yes (λ b. b) xs i false h (sym w.if-is_marked.ensures) in
-          (omega (arith, w.count_is), omega (arith, w.count_is, k))
-      | else-is-marked w ↦
+          (omega (arith, w.count-is), omega (arith, w.count-is, k))
+      | else-is_marked w ↦
           let k = count_by_more_no (λ b. b) xs i false h (sym w.if-is_marked.ensures) in
-          (omega (arith, w.count_is), omega (arith, w.count_is, k))
+          (omega (arith, w.count-is), omega (arith, w.count-is, k))
     ]
 
 pub returns : goal.returns

@@ -4,7 +4,7 @@ use Rattle.drawings.specs.Nets.{first_at, net}
 use Rattle.drawings.proofs.Follow.{net_runs}
 use Rattle.drawings.proofs.Counts.{joined_yes, joined_no, met_short}
 use Rattle.drawings.proofs.lawful.reached_cells.Goals as goal
-use Rattle.drawings.proofs.lawful.reached_cells.Goals.{then-is_first+in-Some, then-is_first+in_default, else-is-first}
+use Rattle.drawings.proofs.lawful.reached_cells.Goals.{then-is_first+in-Some, then-is_first+in_default, else-is_first}
 
 pub overflow_add-count : goal.overflow_add-count
 overflow_add-count g c =
@@ -23,10 +23,10 @@ loop-cell-preserved g c =
     elim c.if-is_first.branch [
       | then-is_first+in-Some w ↦
           let more = joined_yes (net d) (first_at d) i (sym (ap is_first c.record_at.ensures) ∙ sym w.if-is_first.ensures) in
-          omega (arith, w.count_is, w.in-Some.ensures.1, c.loop-cell.invariant)
+          omega (arith, w.count-is, w.in-Some.ensures.1, c.loop-cell.invariant)
       | then-is_first+in_default w ↦
           absurd (w.in_default.ensures (net d i) (net_runs m d c.requires.local i (sym (ap is_first c.record_at.ensures) ∙ sym w.if-is_first.ensures)))
-      | else-is-first w ↦
+      | else-is_first w ↦
           let same = joined_no (net d) (first_at d) i (sym (ap is_first c.record_at.ensures) ∙ sym w.if-is_first.ensures) in
-          omega (arith, w.count_is, c.loop-cell.invariant)
+          omega (arith, w.count-is, c.loop-cell.invariant)
     ]

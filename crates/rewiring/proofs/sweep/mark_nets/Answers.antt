@@ -3,7 +3,7 @@ use Rattle.records.specs.Records.{is_first}
 use Rattle.drawings.proofs.Follow.{net_runs}
 use Rattle.rewiring.proofs.Marking.{MarkedBelow, none_marked, mark_first, mark_other, all_marked}
 use Rattle.rewiring.proofs.sweep.mark_nets.Goals as goal
-use Rattle.rewiring.proofs.sweep.mark_nets.Goals.{then-is-first, else-is-first}
+use Rattle.rewiring.proofs.sweep.mark_nets.Goals.{then-is_first, else-is_first}
 
 pub loop-cell-init : goal.loop-cell-init
 loop-cell-init g c =
@@ -20,10 +20,10 @@ loop-cell-preserved g c =
     let d = c.args.drawing.now in
     let i = c.loop-cell.cell in
     elim c.if-is_first.branch [
-      | then-is-first w ↦
+      | then-is_first w ↦
           subst (λ (xs : List ℕ). MarkedBelow d xs (i + 1)) (sym (w.marks-is ∙ w.mark_net.ensures))
           (mark_first m d c.requires.local c.loop-cell.marks i (sym (ap is_first c.record_at.ensures) ∙ sym w.if-is_first.ensures) c.loop-cell.invariant)
-      | else-is-first w ↦
+      | else-is_first w ↦
           subst (λ (xs : List ℕ). MarkedBelow d xs (i + 1)) (sym w.marks-is)
           (mark_other m d c.requires.local c.loop-cell.marks i (sym (ap is_first c.record_at.ensures) ∙ sym w.if-is_first.ensures) c.loop-cell.invariant)
     ]

@@ -3,7 +3,7 @@ use Rattle.drawings.proofs.Counts.{count_below}
 use Rattle.routing.specs.Showing.{shows_pad}
 use Rattle.routing.proofs.Listing.{listed_more, listed_same}
 use Rattle.routing.proofs.fence.write_pads.Goals as goal
-use Rattle.routing.proofs.fence.write_pads.Goals.{then-shows-pad, else-shows-pad}
+use Rattle.routing.proofs.fence.write_pads.Goals.{then-shows_pad, else-shows_pad}
 
 pub overflow_cast-into : goal.overflow_cast-into
 overflow_cast-into c = let h = count_below (shows_pad c.args.drawing.now c.args.entered.now c.args.start) c.loop-cell.cell in omega (arith, c.loop-cell.invariant.0)
@@ -24,11 +24,11 @@ loop-cell-preserved c =
     let inv = c.loop-cell.invariant in
     let h = count_below p x in
     elim c.if-shows_pad.branch [
-      | then-shows-pad w ↦
+      | then-shows_pad w ↦
           let e = listed_more p x c.args.into.now c.loop-cell.into c.loop-cell.count inv.0 inv.1 (sym w.if-shows_pad.ensures)
           (omega (arith, inv.0, c.requires.room)) in
-          (w.count_is ∙ e.0, w.into-is ∙ e.1)
-      | else-shows-pad w ↦
+          (w.count-is ∙ e.0, w.into-is ∙ e.1)
+      | else-shows_pad w ↦
           let e = listed_same p x c.args.into.now c.loop-cell.into c.loop-cell.count inv.0 inv.1 (sym w.if-shows_pad.ensures) in
-          (w.count_is ∙ e.0, w.into-is ∙ e.1)
+          (w.count-is ∙ e.0, w.into-is ∙ e.1)
     ]

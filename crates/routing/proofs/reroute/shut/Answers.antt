@@ -24,7 +24,7 @@ returns c =
     let q = c.args.pad in
     let r = c.requires.runs in
     let count : c.match-list_net.count ≡ length (net d q) = elim c.match-list_net.branch [
-      | in-Some w ↦ w.count_is ∙ w.in-Some.ensures.1
+      | in-Some w ↦ w.count-is ∙ w.in-Some.ensures.1
       | in-None w ↦ absurd (w.in-None.ensures.0 (net d q) r (omega (arith, run_short r, c.requires.room)))
     ] in
     record {

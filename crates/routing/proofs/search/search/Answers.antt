@@ -5,7 +5,7 @@ use Rattle.routing.specs.Searches.{Notes, notes, visited, Waiting, Scanning, Cam
 use Rattle.routing.proofs.Noting.{same_notes, room}
 use Rattle.routing.proofs.Scans.{begins, came_at_once, scan_begins, scan_more, scan_past, scan_came, scan_ends, wait_past, wait_ends}
 use Rattle.routing.proofs.search.search.Goals as goal
-use Rattle.routing.proofs.search.search.Goals.{in-Some-outlet+else-is_open-2, in-default-outlet, in-Some+else-loop-j-test, in-default}
+use Rattle.routing.proofs.search.search.Goals.{in-Some-outlet+else-is_open-2, in_default-outlet, in-Some+else-loop-j-test, in_default}
 
 pub returns-then-is_open : goal.returns-then-is_open
 returns-then-is_open g c =
@@ -91,12 +91,12 @@ loop-j-preserved g c =
           let x = w.in-Some-outlet.cell in
           let l : x < length d = omega (arith, outlet_inside B u j x o, c.requires.lawful.one_each) in
           let e : notes c.match-outlet.entered c.match-outlet.queue c.match-outlet.from c.match-outlet.count ≡ visited d s k x =
-          same_notes w.entered-is w.queue-is w.from-is w.count_is ∙ w.visit-count-in-Some-outlet.ensures in
+          same_notes w.entered-is w.queue-is w.from-is w.count-is ∙ w.visit-count-in-Some-outlet.ensures in
           subst (λ t. Scanning m d p t k u (j + 1)) (sym e) (scan_more m B d c.requires.lawful p s k u j c.loop-j.invariant x o l (sym w.if-is_open-2.ensures))
-      | in-default-outlet w ↦
+      | in_default-outlet w ↦
           let e : notes c.match-outlet.entered c.match-outlet.queue c.match-outlet.from c.match-outlet.count ≡ s =
-          same_notes w.entered-is w.queue-is w.from-is w.count_is in
-          subst (λ t. Scanning m d p t k u (j + 1)) (sym e) (scan_past m B d c.requires.lawful p s k u j c.loop-j.invariant (sym w.in-default-outlet.ensures))
+          same_notes w.entered-is w.queue-is w.from-is w.count-is in
+          subst (λ t. Scanning m d p t k u (j + 1)) (sym e) (scan_past m B d c.requires.lawful p s k u j c.loop-j.invariant (sym w.in_default-outlet.ensures))
     ]
 
 pub search-preserved : goal.search-preserved
@@ -111,16 +111,16 @@ search-preserved g c =
           let s = notes w.loop-j.entered w.loop-j.queue w.loop-j.from w.loop-j.count in
           let u = w.in-Some.exit in
           let e : notes c.match-exit_of.entered c.match-exit_of.queue c.match-exit_of.from c.match-exit_of.count ≡ s =
-          same_notes w.entered-is w.queue-is w.from-is w.count_is in
+          same_notes w.entered-is w.queue-is w.from-is w.count-is in
           let all : w.loop-j.j ≡ 8 = omega (arith, w.loop-j-test.false, w.loop-j.auto.j-end) in
           subst (λ t. Waiting m d p t (k + 1)) (sym e)
           (scan_ends m B d c.requires.lawful p s k u (subst (λ v. Scanning m d p s k u v) all w.loop-j.invariant))
-      | in-default w ↦
+      | in_default w ↦
           let s = notes c.search.entered c.search.queue c.search.from c.search.count in
           let e : notes c.match-exit_of.entered c.match-exit_of.queue c.match-exit_of.from c.match-exit_of.count ≡ s =
-          same_notes w.entered-is w.queue-is w.from-is w.count_is in
+          same_notes w.entered-is w.queue-is w.from-is w.count-is in
           subst (λ t. Waiting m d p t (k + 1)) (sym e)
-          (wait_past m B d c.requires.lawful p s k c.search.invariant c.if-at-count.false (sym w.in-default.ensures))
+          (wait_past m B d c.requires.lawful p s k c.search.invariant c.if-at-count.false (sym w.in_default.ensures))
     ]
 
 pub returns-then-at-count : goal.returns-then-at-count

@@ -6,7 +6,7 @@ use Rattle.boards.specs.Lists.{at_past}
 use Rattle.boards.specs.Somes.{somes_more, somes_same, at_somes}
 use Rattle.boards.specs.Kept.{outlets_if_open, if_open_at, outlet_closed, outlet_open}
 use Rattle.boards.proofs.keep_out.KeepOutBoard.outlet.Goals as goal
-use Rattle.boards.proofs.keep_out.KeepOutBoard.outlet.Goals.{in-Some+else-left-eq0, in-default}
+use Rattle.boards.proofs.keep_out.KeepOutBoard.outlet.Goals.{in-Some+else-left-eq0, in_default}
 
 pub returns-then-is_closed : goal.returns-then-is_closed
 returns-then-is_closed g c =
@@ -36,8 +36,8 @@ loop-i-preserved g c =
       | in-Some+else-left-eq0 w ↦
           let k = somes_more xs i w.in-Some.next (at ∙ sym w.in-Some.ensures) in
           omega (arith, w.left-is, w.if-left-eq0.false, c.loop-i.invariant)
-      | in-default w ↦
-          let k = somes_same xs i (at ∙ sym w.in-default.ensures) in
+      | in_default w ↦
+          let k = somes_same xs i (at ∙ sym w.in_default.ensures) in
           omega (arith, w.left-is, c.loop-i.invariant)
     ]
 

@@ -6,7 +6,7 @@ use Rattle.boards.specs.Maps.{way, somes}
 use Rattle.boards.specs.Lists.{at_past}
 use Rattle.boards.specs.Somes.{somes_more, somes_same, at_somes}
 use Rattle.boards.proofs.map.Map.nth_way.Goals as goal
-use Rattle.boards.proofs.map.Map.nth_way.Goals.{in-Some+else-left-eq0, in-default}
+use Rattle.boards.proofs.map.Map.nth_way.Goals.{in-Some+else-left-eq0, in_default}
 
 pub returns-then-left-eq0 : goal.returns-then-left-eq0
 returns-then-left-eq0 c =
@@ -28,8 +28,8 @@ loop-step-preserved c =
       | in-Some+else-left-eq0 w ↦
           let k = somes_more (map f steps) i w.in-Some.next (g ∙ sym w.in-Some.ensures) in
           omega (arith, w.left-is, w.if-left-eq0.false, c.loop-step.invariant)
-      | in-default w ↦
-          let k = somes_same (map f steps) i (g ∙ sym w.in-default.ensures) in
+      | in_default w ↦
+          let k = somes_same (map f steps) i (g ∙ sym w.in_default.ensures) in
           omega (arith, w.left-is, c.loop-step.invariant)
     ]
 
