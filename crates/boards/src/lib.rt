@@ -2,6 +2,8 @@
 //
 // `Board` is what the router sees, `PlacedBoard` adds where each cell lies. `Field` and `Escape` are made from maps,
 // and a `KeepOut` closes cells of any board.
+#![tactic(auto)]
+
 pub mod board;
 pub mod count;
 pub mod escape;

@@ -1,4 +1,6 @@
 // The board that the first lines of a job describe.
+#![tactic(auto)]
+
 pub mod closing;
 pub mod entering;
 pub mod header;

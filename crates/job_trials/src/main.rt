@@ -2,6 +2,8 @@
 //
 // A line of standard input has a name and the size of the output memory. The job of a name stands in NAME.job, and what it says, worked
 // out without the router, in NAME.out.
+#![tactic(auto)]
+
 use anyhow::anyhow;
 use jobs::job::run_job;
 use std::{fs, io};

@@ -1,5 +1,7 @@
 // What the check of a drawing costs: it draws two nets that fill a field of 32 columns and checks the drawing as often as asked.
 // Arguments: the rows of the field, an even number up to 64, and how often to check. Count its instructions for one check and for two.
+#![tactic(auto)]
+
 ghost use Rattle.std.specs.Prelude.{◌<◌, ◌≤◌};
 
 use boards::board::Board;

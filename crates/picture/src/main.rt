@@ -3,6 +3,8 @@
 //
 // The map is a line `field R C` or `escape R C`, and then R lines of C digits, one for each point. After it come the calls, a line
 // each: `place N`, `lift N`, `bar N` or `clear N`, where N is the number of a cell.
+#![tactic(auto)]
+
 mod canvas;
 mod orders;
 mod report;

@@ -5,6 +5,8 @@
 // the wires have to spread, and early ones have to be moved for late ones.
 // Arguments: the rows of the field, a multiple of 4 up to 64, and how many pads to place. To know what the last place takes, count
 // the instructions of a run with it and of a run without it.
+#![tactic(auto)]
+
 ghost use Rattle.std.specs.Prelude.{◌≡◌, ◌<◌, ◌≤◌, true};
 
 use boards::board::Board;

@@ -2,6 +2,8 @@
 //
 // The trail is taken back from its landing to its pad, moving wires as need be. That can leave rings, cut off from every pad,
 // and a sweep frees them.
+#![tactic(auto)]
+
 mod moves;
 pub mod rewire;
 mod sweep;

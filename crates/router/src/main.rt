@@ -1,4 +1,6 @@
 // Runs a job: reads it from standard input, and prints what is said.
+#![tactic(auto)]
+
 use jobs::job::run_job;
 use std::io;
 use std::io::{Read, Write};

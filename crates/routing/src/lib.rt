@@ -1,4 +1,6 @@
 // Routing: finding a way for a pad past the nets of a drawing, or the fence that shows that there is none.
+#![tactic(auto)]
+
 pub mod bar;
 pub mod claims;
 pub mod fence;

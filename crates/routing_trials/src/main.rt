@@ -2,6 +2,8 @@
 //
 // Standard input is a table with a board on each line, made by tools/brute_force.py, and the answers expected are its too. Which
 // landing a pad gets, and by which course, is the router's choice, so nothing of it is shown.
+#![tactic(auto)]
+
 mod row;
 mod trial;
 

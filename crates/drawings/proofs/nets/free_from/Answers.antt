@@ -9,7 +9,7 @@ use Rattle.drawings.proofs.nets.free_from.Goals as goal
 pub loop-next-init : goal.loop-next-init
 loop-next-init c = (c.requires, refl, refl)
 
-step : (c : goal.After-drawing·1) → Runs c.put.new.drawing c.in-Some.next (net c.put.new.drawing c.in-Some.next) ×
+step : (c : goal.After-drawing-1) → Runs c.put.new.drawing c.in-Some.next (net c.put.new.drawing c.in-Some.next) ×
     (net c.loop-next.drawing c.loop-next.cell ≡ c.loop-next.cell ∷ net c.put.new.drawing c.in-Some.next)
 step c = free_step c.loop-next.drawing c.put.new.drawing c.loop-next.cell c.in-Some.next c.put.ensures c.loop-next.invariant.0
     (sym (ap after_of c.record_at.ensures) ∙ sym c.in-Some.ensures)

@@ -24,7 +24,7 @@ pub loop-i-preserved : goal.loop-i-preserved
 loop-i-preserved g c =
     subst
     (λ letters. Passed (g.B.PlacedBoard.places c.args.board.now) c.args.cells.now (c.loop-i.i + 1) letters)
-    (sym (c.in_ok-push.ensures.items ∙ ap (λ x. vec_items c.loop-i.letters ++ x ∷ []) c.letter_of.ensures))
+    (sym (c.in_ok-push-in-Some.ensures.items ∙ ap (λ x. vec_items c.loop-i.letters ++ x ∷ []) c.letter_of.ensures))
     (more_passed
     (g.B.PlacedBoard.places c.args.board.now) c.args.cells.now c.loop-i.i (vec_items c.loop-i.letters) c.in-Some.step
     (omega arith)

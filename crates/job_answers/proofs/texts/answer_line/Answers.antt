@@ -4,7 +4,7 @@ use Rattle.records.specs.declared.refusal.Refusal.TheVariants.{WrongDrawing, Sho
 use Rattle.records.specs.Numbers.{number_of}
 use Rattle.job_answers.specs.Texts.{counts, answer_line}
 use Rattle.job_answers.proofs.texts.answer_line.Goals as goal
-use Rattle.job_answers.proofs.texts.answer_line.Goals.{in-NoWay+in_ok-text-2, in_default+in_ok-text-3}
+use Rattle.job_answers.proofs.texts.answer_line.Goals.{in-NoWay+in_ok-text-in-NoWay, in_default+in_ok-text-in_default}
 
 -- only a refusal for want of a way has counts
 no_counts : (e : Refusal) → ((pads cells : ℕ) → e ≡ NoWay pads cells → ⊥) → counts e ≡ []
@@ -35,12 +35,12 @@ pub returns : goal.returns
 returns c =
     let refused = ap answer_line c.in-Err.is in
     elim c.match-refusal.branch [
-      | in-NoWay+in_ok-text-2 w ↦
+      | in-NoWay+in_ok-text-in-NoWay w ↦
           ap vec_items c.into_bytes-2.ensures.value ∙ ap string_bytes w.text-is ∙
           counted c.in-Err.refusal c.number-number.result w.in-NoWay.pads w.in-NoWay.cells _
-          w.in-NoWay.is c.number-number.ensures w.in_ok-text-2.ensures.ok ∙ sym refused
-      | in_default+in_ok-text-3 w ↦
+          w.in-NoWay.is c.number-number.ensures w.in_ok-text-in-NoWay.ensures.ok ∙ sym refused
+      | in_default+in_ok-text-in_default w ↦
           ap vec_items c.into_bytes-2.ensures.value ∙ ap string_bytes w.text-is ∙
           plain c.in-Err.refusal c.number-number.result _
-          w.in_default.not-NoWay c.number-number.ensures w.in_ok-text-3.ensures.ok ∙ sym refused
+          w.in_default.not-NoWay c.number-number.ensures w.in_ok-text-in_default.ensures.ok ∙ sym refused
     ]

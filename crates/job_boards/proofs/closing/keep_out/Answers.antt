@@ -7,8 +7,8 @@ loop-cell-init g c = (refl, c.new-over.ensures.nothing)
 
 pub loop-cell-preserved : goal.loop-cell-preserved
 loop-cell-preserved g c = (
-  c.close.ensures.same-board ∙ c.loop-cell.invariant.0,
-  closed_more _ _ (ap g.B.Board.meaning c.close.ensures.same-board) _ _ c.loop-cell-test.true _ _ _ _ c.close.ensures.answer c.close.ensures.closes c.loop-cell.invariant.1,
+  c.close.ensures.same_board ∙ c.loop-cell.invariant.0,
+  closed_more _ _ (ap g.B.Board.meaning c.close.ensures.same_board) _ _ c.loop-cell-test.true _ _ _ _ c.close.ensures.answer c.close.ensures.closes c.loop-cell.invariant.1,
 )
 
 pub returns : goal.returns
