@@ -53,7 +53,7 @@ loop-j-init g c =
     let d = c.args.drawing.now in
     let p = c.args.start in
     let s = notes c.search.entered c.search.queue c.search.from c.search.count in
-    subst (λ t. Scanning m d p t c.search.at c.in-Some.exit 0) (sym c.visit_count.ensures)
+    subst (λ t. Scanning m d p t c.search.at c.in-Some.exit 0) (sym c.visit-count.ensures)
     (scan_begins m (g.met.B.Board.bounded c.args.board.now) d c.requires.lawful p s c.search.at c.in-Some.exit
     c.search.invariant c.if-at-count.false (sym c.in-Some.ensures)).1
 
