@@ -4,8 +4,9 @@
 set -euo pipefail
 cd "$(dirname "$0")/.."
 
-rt staticlib jobs
-mkdir -p target/c
+(cd crates/jobs_c && rt check && rt lib)
+mkdir -p target/c target/staticlib
+cp crates/jobs_c/out/libjobs_c.a target/staticlib/libjobs.a
 gcc -std=c11 -Wall -Wextra -Werror -O2 -o target/c/run_job c/run_job.c c/memory.c target/staticlib/libjobs.a
 
 count=0

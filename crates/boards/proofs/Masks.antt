@@ -1,11 +1,11 @@
 -- Bits of a mask: setting one, and counting them all.
-use Rattle.std.proofs.Common.{◌≡◌, ℕ, zero, suc, ◌+◌, ◌-◌, ◌*◌, ◌/◌, ◌%◌, ◌^◌, ◌<◌, ◌≤◌, Bool, true, false, cond, ◌||◌, eqb, ◌⊎◌, List, [], ◌∷◌, length, get_or, set, replicate, sum_by, count_by, sym, refl, ap, ◌∙◌, subst, inl, inr, ⊎_elim, add-zero, add_assoc, pow-suc, zero-add, div-one, arith, get_or-set_other, get_or-set_same}
+use Rattle.std.proofs.Common.{◌≡◌, ℕ, zero, suc, ◌+◌, ◌-◌, ◌*◌, ◌/◌, ◌%◌, ◌^◌, ◌<◌, Bool, false, cond, ◌||◌, eqb, List, [], ◌∷◌, length, get_or, set, replicate, sum_by, count_by, sym, refl, ap, ◌∙◌, ⊎_elim, add-zero, add_assoc, pow-suc, zero-add, div-one, arith, get_or-set_other, get_or-set_same}
 use native.Mathlib.Nat.{div-eq_of_lt, div_self, mul-mod_left, zero-div}
 use lib.Bits.{bit_or}
 use lib.Count.{ones, ones_step, ones-ones}
 use lib.ListN.{get_or-replicate}
 use Rattle.std.specs.List.{range_with_len}
-use Rattle.std.proofs.lemmas.Nat.{pow_pos, pow-add, pow_below, shl-shr, shr-shr, or_shr, or_mod, div-add-mod', mod_below, div-mul-add, mod-mul-add, div_below}
+use Rattle.std.proofs.lemmas.Nat.{pow_pos, pow-add, pow_below, shl-shr, shr-shr, or_shr, or_mod, div-add-mod', mod_below, div_below}
 use Rattle.std.proofs.lemmas.List.{get_or_past}
 use Rattle.std.proofs.lemmas.List.Sums.{sum_by-cons}
 use Rattle.std.proofs.lemmas.Bool.{cases_lt, cases_eq, cases_order, eq-eqb, ne_eqb, or_left}

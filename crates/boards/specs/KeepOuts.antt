@@ -1,5 +1,5 @@
 -- Keep-outs: a board with some of its cells closed.
-use Rattle.std.specs.Prelude.{◌≡◌, ℕ, ◌/◌, ◌%◌, ◌^◌, ◌≤◌, Bool, cond, not, ◌&&◌, ◌||◌, List, [], length, Some, None, Ok, Err, count_by, filter, Option, Result, ◌==◌, slice_index}
+use Rattle.std.specs.Prelude.{◌≡◌, ℕ, ◌/◌, ◌%◌, ◌^◌, ◌≤◌, Bool, cond, not, ◌&&◌, ◌||◌, List, [], Some, None, Ok, Err, count_by, filter, Option, Result, ◌==◌, slice_index}
 use Rattle.std.specs.List.{range_with_len}
 use Rattle.boards.specs.declared.refusal.BoardRefusal.{BoardRefusal}
 use Rattle.boards.specs.Meaning.{Meaning, when, board_of, outlets_of, pad_at, landing_at}

@@ -1,6 +1,6 @@
 -- What is answered of a board that is given by what each cell's outlets are, and when such a board is bounded.
 use Rattle.std.specs.Prelude.{◌≡◌, ℕ, ◌<◌, ◌≤◌, Bool, List, [], map, length, Some, slice_index, slice_index_or}
-use Rattle.std.proofs.Common.{sym, ⊎_elim, arith, zero-add}
+use Rattle.std.proofs.Common.{⊎_elim, arith, zero-add}
 use Rattle.std.proofs.Math.Path.{subst⁻¹}
 use Rattle.std.specs.List.{range_with_len}
 use Rattle.std.proofs.lemmas.List.FromFn.{length-map-range_with_len, get_or-map-range_with_len}

@@ -1,6 +1,5 @@
 -- Small boards worked out by hand, as facts about the definitions.
 use Rattle.std.specs.Prelude.{◌≡◌, ℕ, true, false, List, [], ◌∷◌}
-use Rattle.boards.specs.Meaning.{Meaning}
 use Rattle.boards.specs.Fields.{field}
 use Rattle.boards.specs.Escapes.{escape}
 use Rattle.boards.specs.Maps.{SidesAllowed}

@@ -1,5 +1,5 @@
 -- Freeing the net cells that no first cell leads to: with the local rules what is left is lawful, and no wired pad, bar or used landing is lost.
-use Rattle.std.proofs.Common.{◌≡◌, ℕ, true, false, ◌&&◌, List, [], ◌∷◌, length, Some, sym, ap, ◌∙◌, ⊎_elim}
+use Rattle.std.proofs.Common.{◌≡◌, ℕ, true, ◌&&◌, List, [], ◌∷◌, length, Some, sym, ap, ◌∙◌, ⊎_elim}
 use Rattle.std.proofs.lemmas.Bool.{cases_Bool, and_right}
 use Rattle.boards.specs.Meaning.{Meaning, landing_at}
 use Rattle.linkages.specs.Lists.{Mem}

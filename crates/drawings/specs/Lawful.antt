@@ -34,6 +34,6 @@ abbrev pub Begins : Meaning → List Record → ℕ → Option ℕ → Type 0
 Begins m d c None = pad_at m c ≡ true
 Begins m d c (Some s) = after_at d s ≡ Some c
 
-abbrev pub Goes_on : Meaning → List Record → ℕ → Option ℕ → Type 0
-Goes_on m d c None = landing_at m c ≡ true
-Goes_on m d c (Some t) = (landing_at m c ≡ false) × Mem t (outlets_of m c) × (before_at d t ≡ Some c)
+abbrev pub GoesOn : Meaning → List Record → ℕ → Option ℕ → Type 0
+GoesOn m d c None = landing_at m c ≡ true
+GoesOn m d c (Some t) = (landing_at m c ≡ false) × Mem t (outlets_of m c) × (before_at d t ≡ Some c)

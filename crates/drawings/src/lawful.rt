@@ -7,7 +7,7 @@ ghost use Rattle.std.specs.List.{flat_map};
 ghost use Rattle.boards.specs.Meaning.{outlets_of};
 ghost use Rattle.linkages.specs.Lists.{Mem};
 ghost use Rattle.drawings.specs.Nets.{before_at, after_at, net_at, cells_where, wired, net};
-ghost use Rattle.drawings.specs.Lawful.{Local, Begins, Goes_on, Lawful};
+ghost use Rattle.drawings.specs.Lawful.{Local, Begins, GoesOn, Lawful};
 ghost use Rattle.drawings.specs.Links.{Linked};
 
 use crate::nets::net_length;
@@ -60,7 +60,7 @@ fn begins<B: Board>(board: &B, drawing: &[Record], cell: u16, before: Option<u16
 
 // Whether a net cell goes on rightly: at a landing not at all, else to an outlet that comes from it.
 fn goes_on<B: Board>(board: &B, drawing: &[Record], cell: u16, after: Option<u16>) -> bool
-    ensures { Decides result (Goes_on (B.meaning board.now) drawing.now cell after) }
+    ensures { Decides result (GoesOn (B.meaning board.now) drawing.now cell after) }
 {
     match after {
         Some(to) => !board.is_landing(cell)

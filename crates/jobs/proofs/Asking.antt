@@ -6,7 +6,7 @@ use Rattle.runs.specs.declared.calls.Kind.TheVariants as kind
 use Rattle.job_lines.specs.Grammar.{Form, place, lift, bar, clear, show}
 use Rattle.job_boards.specs.Plans.{Named, Plan, at_place}
 use Rattle.job_boards.specs.Faults.{call_lines, Wrong, NoneIn, checks, HasName}
-use Rattle.jobs.specs.Calls.{Wish, call, course_of, top_of, Asks, place_pad, lift_pad, show_pad, bar_cell, clear_cell}
+use Rattle.jobs.specs.Calls.{Wish, call, course_of, Asks, place_pad, lift_pad, show_pad, bar_cell, clear_cell}
 use Rattle.jobs.specs.Steps.{FindsPad}
 
 -- a line of the form f, of which nothing is wrong

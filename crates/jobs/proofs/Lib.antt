@@ -10,5 +10,4 @@ pub mod Starting
 pub mod Sites
 pub mod Performing
 pub mod Running
-pub mod Entering
 pub mod Upholding

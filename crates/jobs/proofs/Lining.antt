@@ -1,5 +1,5 @@
 -- One call line.
-use Rattle.std.proofs.Common.{◌≡◌, ℕ, ◌+◌, ◌<◌, ◌≤◌, true, false, List, Ok, Err, sym, refl, subst, ⊎_elim, arith}
+use Rattle.std.proofs.Common.{◌≡◌, ℕ, ◌+◌, ◌<◌, ◌≤◌, true, false, List, Ok, Err, subst, ⊎_elim}
 use Rattle.std.proofs.lemmas.Bool.{cases_lt, false≢true}
 use Rattle.boards.specs.declared.place.Place.{Place}
 use Rattle.boards.specs.Meaning.{Meaning}
@@ -7,8 +7,8 @@ use Rattle.records.specs.declared.record.Record.{Record}
 use Rattle.job_lines.specs.declared.faults.LineFault.{LineFault}
 use Rattle.job_lines.specs.Grammar.{Form, WellFormed, spelled}
 use Rattle.job_boards.specs.declared.plan.Pad.{Pad}
-use Rattle.job_boards.specs.Plans.{Plan, board_meaning, board_places}
-use Rattle.job_boards.specs.Faults.{Says, call_lines, Faulty, wrong}
+use Rattle.job_boards.specs.Plans.{Plan, board_places}
+use Rattle.job_boards.specs.Faults.{call_lines, Faulty, wrong}
 use Rattle.jobs.specs.declared.orders.Order.{Order}
 use Rattle.jobs.specs.Calls.{Answered, LineAnswered}
 use Rattle.jobs.specs.Steps.{Site, Ordered, wish_of}

@@ -1,12 +1,12 @@
 -- Jobs from their parts: the first line, the board, the calls.
-use Rattle.std.proofs.Common.{◌≡◌, ℕ, ◌+◌, List, [], ◌∷◌, Some, None, vec_items, Option, sym, refl, ap, ◌∙◌, subst}
+use Rattle.std.proofs.Common.{◌≡◌, ℕ, ◌+◌, List, [], ◌∷◌, Some, None, Option, sym, subst}
 use Rattle.boards.specs.declared.maps.MapKind.{MapKind}
 use Rattle.records.specs.declared.record.Record.{Record}
 use Rattle.job_lines.specs.declared.faults.LineFault.{LineFault}
 use Rattle.job_lines.specs.Lines.{lines_of}
 use Rattle.job_boards.specs.Plans.{Plan, bare}
-use Rattle.job_boards.specs.Faults.{first_line, board_lines, Good, Faulty}
-use Rattle.job_boards.specs.Reading.{header_form, Reaches, Over, Stops}
+use Rattle.job_boards.specs.Faults.{first_line, Good, Faulty}
+use Rattle.job_boards.specs.Reading.{header_form, Reaches, Stops}
 use Rattle.job_answers.specs.Texts.{fault_line}
 use Rattle.jobs.specs.Calls.{Ends}
 use Rattle.jobs.specs.Jobs.{Job, empty, bad_first, bad_board, calls}

@@ -1,5 +1,5 @@
 -- What is said to a job has room in the output.
-use Rattle.std.proofs.Common.{◌≡◌, ℕ, suc, ◌+◌, ◌<◌, ◌≤◌, Bool, true, false, cond, eqb, List, [], ◌∷◌, ◌++◌, length, Option, arith, length-append}
+use Rattle.std.proofs.Common.{◌≡◌, ℕ, suc, ◌+◌, ◌<◌, ◌≤◌, Bool, true, false, cond, eqb, List, [], ◌∷◌, length, Option, arith, length-append}
 use Rattle.records.specs.declared.record.Record.{Record}
 use Rattle.job_lines.specs.declared.faults.LineFault.{LineFault}
 use Rattle.job_lines.specs.declared.faults.LineFault.TheVariants.{Full}

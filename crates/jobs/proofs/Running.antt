@@ -1,5 +1,5 @@
 -- Running a job on output memory.
-use Rattle.std.proofs.Common.{◌≡◌, ℕ, ◌<◌, ◌≤◌, List, length, Option, sym, subst, ⊎_elim, arith}
+use Rattle.std.proofs.Common.{◌≡◌, ℕ, ◌≤◌, List, length, Option, sym, subst, ⊎_elim, arith}
 use Rattle.records.specs.declared.record.Record.{Record}
 use Rattle.drawings.specs.Changes.{written}
 use Rattle.job_lines.specs.declared.faults.LineFault.{LineFault}

@@ -1,5 +1,5 @@
 -- The board that a job's calls are made on is the one that its lines describe.
-use Rattle.std.proofs.Common.{◌≡◌, ℕ, Bool, ltb, List, map, filter, sym, ap, ◌∙◌}
+use Rattle.std.proofs.Common.{◌≡◌, ℕ, Bool, ltb, List, map, filter, ap, ◌∙◌}
 use Rattle.boards.specs.declared.place.Place.{Place}
 use Rattle.boards.specs.Meaning.{Meaning}
 use Rattle.boards.specs.KeepOuts.{keep_out}

@@ -1,11 +1,11 @@
 -- The start of the calls.
-use Rattle.std.proofs.Common.{◌≡◌, ℕ, List, [], ◌∷◌, replicate, sym, refl, ap, ◌∙◌, subst}
+use Rattle.std.proofs.Common.{◌≡◌, ℕ, List, [], replicate, sym, ap, ◌∙◌, subst}
 use Rattle.boards.specs.declared.place.Place.{Place}
 use Rattle.boards.specs.Meaning.{Meaning}
 use Rattle.records.specs.declared.record.Record.{Record}
 use Rattle.records.specs.declared.record.Record.TheVariants.{Free}
 use Rattle.job_boards.specs.declared.plan.Pad.{Pad}
-use Rattle.job_boards.specs.Plans.{Plan, board_meaning}
+use Rattle.job_boards.specs.Plans.{Plan}
 use Rattle.jobs.specs.Calls.{Calls, none_yet}
 use Rattle.jobs.specs.Steps.{Site}
 

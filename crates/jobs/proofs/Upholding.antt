@@ -1,5 +1,5 @@
 -- The calls of a job go on a history that upholds the claim.
-use Rattle.std.proofs.Common.{◌≡◌, ℕ, List, [], ◌∷◌, Option, refl}
+use Rattle.std.proofs.Common.{◌≡◌, ℕ, List, [], Option, refl}
 use Rattle.boards.specs.declared.place.Place.{Place}
 use Rattle.records.specs.declared.record.Record.{Record}
 use Rattle.runs.specs.Histories.{History, stands}
@@ -9,11 +9,11 @@ use Rattle.job_lines.specs.declared.faults.LineFault.{LineFault}
 use Rattle.job_lines.specs.Grammar.{Form}
 use Rattle.job_boards.specs.Plans.{Plan, board_meaning, board_places}
 use Rattle.jobs.specs.Calls.{Wish, Asks, Answered, no_cell, called, shown, LineAnswered, Calls, none_yet, one_more, Ends, all_made, faulty, full}
-use Rattle.jobs.specs.Claims.{Goes_on, same, by_call, JobsUphold}
+use Rattle.jobs.specs.Claims.{GoesOn, same, by_call, JobsUphold}
 
 -- a history that goes on h, upholds the claim and ends in e
 abbrev Onward : Plan → History → Form → List ℕ → List Record → Type 0
-Onward p h f answer e = (h' : History) × Goes_on p h f answer h' × Upholds (board_meaning p) h' × (e ≡ stands (board_meaning p) h')
+Onward p h f answer e = (h' : History) × GoesOn p h f answer h' × Upholds (board_meaning p) h' × (e ≡ stands (board_meaning p) h')
 
 answered_on : (p : Plan) (h : History) (f : Form) {d e : List Record} {w : Wish} {q : Place} {answer : List ℕ} → Upholds (board_meaning p) h → d ≡ stands (board_meaning p) h →
     Asks p f w q → Answered (board_meaning p) (board_places p) d w q e answer → Onward p h f answer e

@@ -13,16 +13,16 @@ use Rattle.jobs.specs.Calls.{call, Asks, LineAnswered, Ends}
 
 -- a line of the form f goes on a history: by nothing, if it shows a course or aims at no cell, or by the call that it asks for, on
 -- the cell at the place that it names, whose answer is the line's
-pub data Goes_on (p : Plan) (h : History) (f : Form) (answer : List ℕ) : History → Type 0 where
-  same : Goes_on p h f answer h
+pub data GoesOn (p : Plan) (h : History) (f : Form) (answer : List ℕ) : History → Type 0 where
+  same : GoesOn p h f answer h
   by_call : {q : Place} (e : Event) → Asks p f (call e.kind) q → place_at (board_places p) e.cell ≡ Some q → answer ≡ answer_line e.answer →
-      Goes_on p h f answer (e ∷ h)
+      GoesOn p h f answer (e ∷ h)
 
 pub record JobsUphold : Type 0 where
   -- a line that is answered goes on a history that upholds the claim to one that does
   pub each_line : (p : Plan) (h : History) (d e : List Record) (bytes answer : List ℕ) → Upholds (board_meaning p) h → d ≡ stands (board_meaning p) h →
       (line : LineAnswered p d bytes e answer) →
-      (h' : History) × Goes_on p h line.form answer h' × Upholds (board_meaning p) h' × (e ≡ stands (board_meaning p) h')
+      (h' : History) × GoesOn p h line.form answer h' × Upholds (board_meaning p) h' × (e ≡ stands (board_meaning p) h')
   -- so the drawing at the end of a job is what a run of calls left of which the whole claim holds: it is lawful, and holds exactly
   -- what was accepted
   pub at_the_end : (p : Plan) (room before : ℕ) (lines : List (List ℕ)) (d : List Record) (said : List ℕ) (x : Option LineFault) →

@@ -1,5 +1,4 @@
 pub mod Calls
 pub mod Jobs
 pub mod Steps
-pub mod Entry
 pub mod Claims

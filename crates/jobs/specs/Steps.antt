@@ -1,5 +1,5 @@
 -- What the functions that make the calls of a job answer.
-use Rattle.std.specs.Prelude.{◌≡◌, ℕ, ◌+◌, ◌*◌, ◌<◌, ◌≤◌, ◌⊎◌, List, [], ◌∷◌, ◌++◌, map, length, replicate, Some, None, Ok, Err, vec_items, Option, Result, ◌≢◌}
+use Rattle.std.specs.Prelude.{◌≡◌, ℕ, ◌+◌, ◌*◌, ◌<◌, ◌≤◌, ◌⊎◌, List, ◌++◌, map, length, Some, None, Ok, Err, vec_items, Option, Result, ◌≢◌}
 use Rattle.boards.specs.declared.place.Place as boards
 use Rattle.boards.specs.Meaning.{Meaning}
 use Rattle.boards.specs.Places.{place_at}

@@ -14,7 +14,7 @@ use Rattle.records.specs.declared.record.Record.{Record}
 use Rattle.records.specs.declared.record.Record.TheVariants.{Barred, Net}
 use Rattle.records.specs.Records.{before_of, after_of, is_first, is_last, record_at}
 use Rattle.drawings.specs.Nets.{before_at, after_at, net_at, net, bars}
-use Rattle.drawings.specs.Lawful.{Local, Reached, first, next, Lawful, Begins, Goes_on}
+use Rattle.drawings.specs.Lawful.{Local, Reached, first, next, Lawful, Begins, GoesOn}
 use Rattle.drawings.proofs.Said.{none_not_some, net_inside}
 use Rattle.drawings.proofs.Locals.{local_free, local_everywhere}
 use Rattle.layouts.specs.declared.wires.Point.{Point}
@@ -56,15 +56,15 @@ module _ (m : Meaning) (d : List Record) (c : ℕ) where
   starts None a B e = B
   starts (Some s) a B e = absurd (false≢true e)
 
-  ended : (b a : Option ℕ) → Goes_on m d c a → is_last (Net b a) ≡ true → landing_at m c ≡ true
+  ended : (b a : Option ℕ) → GoesOn m d c a → is_last (Net b a) ≡ true → landing_at m c ≡ true
   ended b None G e = G
   ended b (Some t) G e = absurd (false≢true e)
 
-  landed : (b a : Option ℕ) → Goes_on m d c a → landing_at m c ≡ true → is_last (Net b a) ≡ true
+  landed : (b a : Option ℕ) → GoesOn m d c a → landing_at m c ≡ true → is_last (Net b a) ≡ true
   landed b None G l = refl
   landed b (Some t) G l = absurd (false≢true (sym G.0 ∙ l))
 
-  onward : (a : Option ℕ) → Goes_on m d c a → (t : ℕ) → a ≡ Some t → Mem t (outlets_of m c) × (before_at d t ≡ Some c)
+  onward : (a : Option ℕ) → GoesOn m d c a → (t : ℕ) → a ≡ Some t → Mem t (outlets_of m c) × (before_at d t ≡ Some c)
   onward None G t e = absurd (none_not_some e)
   onward (Some u) G t e = let same : u ≡ t = cc in subst (λ x. Mem x (outlets_of m c) × (before_at d x ≡ Some c)) same (G.1, G.2)
 
@@ -72,7 +72,7 @@ module _ (m : Meaning) (d : List Record) (c : ℕ) where
   from None B s e = absurd (none_not_some e)
   from (Some u) B s e = let same : u ≡ s = cc in subst (λ x. after_at d x ≡ Some c) same B
 
-  local_net : (b a : Option ℕ) → record_at d c ≡ Net b a → Begins m d c b → Goes_on m d c a → Local m d c
+  local_net : (b a : Option ℕ) → record_at d c ≡ Net b a → Begins m d c b → GoesOn m d c a → Local m d c
   local_net b a e B G = record {
     first_is_pad = λ p. starts b a B (sym (ap is_first e) ∙ p);
     last_is_landing = λ p. ended b a G (sym (ap is_last e) ∙ p);

@@ -2,7 +2,7 @@
 use Rattle.std.proofs.Common.{◌≡◌, ℕ, Bool, true, false, cond, ◌⊎◌, List, [], ◌∷◌, sym, refl, ap, ◌∙◌, subst, inl, inr}
 use mathlib.Core.Bool.{false≢true}
 use Rattle.boards.specs.Meaning.{Meaning, landing_at}
-use Rattle.linkages.specs.Lists.{Mem, here, there, Within, Distinct, Next, begins, goes_on, Front}
+use Rattle.linkages.specs.Lists.{Mem, here, there, Within, Distinct, Next, Front}
 use Rattle.linkages.specs.Paths.{Landing, Unbarred, Walk, stop, step, Path, LandsOnce, upto_landing, WalksShorten, FrontsArePaths}
 use Rattle.linkages.specs.Paths.{Truncated}
 use Rattle.linkages.proofs.Nexts.{next_cases, next_not_one}

@@ -1,5 +1,5 @@
 -- Pads that can be met can be wired.
-use Rattle.std.proofs.Common.{◌≡◌, ℕ, List, [], ◌∷◌, map, sym, refl, ◌∙◌, subst}
+use Rattle.std.proofs.Common.{◌≡◌, ℕ, List, [], ◌∷◌, map, sym, refl, subst}
 use Rattle.boards.specs.Meaning.{Meaning}
 use Rattle.linkages.specs.Lists.{Mem, here, there, Distinct}
 use Rattle.linkages.specs.Paths.{Landing, Walk, stop, step, Path, Linkage, LandsOnce, upto_landing}

@@ -6,7 +6,7 @@ use Rattle.linkages.specs.Lists.{Mem, here, there, Next}
 use Rattle.linkages.proofs.Members.{mem_none, mem_one, mem_cases}
 use Rattle.linkages.proofs.Places.{mem_get_or, has_from_mem, by_places}
 use Rattle.records.specs.declared.record.Record.{Record}
-use Rattle.drawings.specs.Nets.{net_at, first_at, barred_at, wired, bars, used}
+use Rattle.drawings.specs.Nets.{net_at, first_at, barred_at, wired, used}
 use Rattle.drawings.specs.Lawful.{Local, Lawful}
 use Rattle.drawings.proofs.Said.{first_net, net_inside}
 use Rattle.drawings.proofs.Cells.{kept_below, below_kept}

@@ -4,7 +4,7 @@ use Rattle.linkages.specs.Lists.{Mem, here, there, Within, Same}
 use Rattle.linkages.proofs.Members.{mem_none, mem_cases}
 use Rattle.linkages.proofs.SameMembers.{fences_agree}
 use Rattle.routing.specs.Showing.{Rising}
-use Rattle.routing.specs.Outcomes.{FenceShown, RefusalsAgree}
+use Rattle.routing.specs.Outcomes.{RefusalsAgree}
 
 -- rising lists with the same members are one
 rising_within : (x y : ℕ) (xs ys : List ℕ) → x ≡ y → Rising (x ∷ xs) → Within (x ∷ xs) (y ∷ ys) → Within xs ys

@@ -1,23 +1,22 @@
 -- Barring a free cell; taking up a net and laying it again.
-use Rattle.std.proofs.Common.{◌≡◌, ℕ, ◌+◌, ◌-◌, ◌<◌, ◌≤◌, Bool, true, false, cond, not, ◌&&◌, eqb, ◌⊎◌, List, [], ◌∷◌, ◌++◌, length, get_or, take, drop, set, Some, None, filter, Option, sym, refl, ap, ◌∙◌, subst, inl, inr, ⊎_elim, arith}
+use Rattle.std.proofs.Common.{◌≡◌, ℕ, ◌<◌, true, false, not, eqb, List, [], ◌∷◌, length, set, Some, None, Option, sym, refl, ap, ◌∙◌, subst, ⊎_elim, arith}
 use Rattle.std.proofs.lemmas.List.{get_or-set_same, get_or-set_other, length-set, ext_get_or}
 use Rattle.std.proofs.lemmas.Bool.{both_ways, false≢true, cases_eq, ne_eqb}
-use Rattle.boards.specs.Meaning.{Meaning, pad_at}
-use Rattle.linkages.specs.Lists.{Mem, here, there, Distinct, Within, Same}
+use Rattle.boards.specs.Meaning.{Meaning}
+use Rattle.linkages.specs.Lists.{Mem, here, there, Same}
 use Rattle.linkages.specs.Paths.{CanBeMet}
-use Rattle.linkages.specs.Fences.{Fence}
 use Rattle.linkages.proofs.Members.{mem_none, mem_cases, mem_at, dec_mem, mem_kept, mem_of_kept}
 use Rattle.linkages.proofs.Fewer.{linkage_for_less}
 use Rattle.linkages.proofs.SameMembers.{fence_by_members}
 use Rattle.records.specs.declared.record.Record.{Record}
 use Rattle.records.specs.declared.record.Record.TheVariants.{Free, Barred, Net}
 use Rattle.records.specs.Records.{before_of, after_of, is_net, is_first, is_last, is_barred, record_at}
-use Rattle.drawings.specs.Nets.{before_at, after_at, net_at, first_at, last_at, barred_at, wired, bars, net, without, Runs, ends, goes}
+use Rattle.drawings.specs.Nets.{before_at, after_at, net_at, first_at, barred_at, wired, bars, net, without, Runs, ends, goes}
 use Rattle.drawings.specs.Lawful.{Local, Reached, first, next, Lawful}
-use Rattle.drawings.specs.Changes.{freed, head_of, laid_after, laid, written}
-use Rattle.drawings.proofs.Said.{none_not_some, some_same, before_net, after_net, first_net, last_net, net_inside}
+use Rattle.drawings.specs.Changes.{freed, head_of, laid_after, laid}
+use Rattle.drawings.proofs.Said.{after_net, first_net, last_net, net_inside}
 use Rattle.drawings.proofs.Cells.{kept_below, below_kept}
-use Rattle.drawings.proofs.Follow.{run_first, run_net, run_from, run_distinct, run_short, net_run, net_here, net_runs, reached_net}
+use Rattle.drawings.proofs.Follow.{run_first, run_net, run_from, run_distinct, net_run, net_here, net_runs, reached_net}
 use Rattle.drawings.proofs.Freeing.{frees, lift_lawful, lift_wired, lift_bars, cells_same}
 use Rattle.drawings.proofs.Changed.{freed_long, freed_inside, freed_outside}
 use Rattle.drawings.proofs.Linking.{linked}

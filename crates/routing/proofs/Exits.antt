@@ -1,18 +1,15 @@
 -- Exits and bars of a lawful drawing, by its records and by its nets.
-use Rattle.std.proofs.Common.{◌≡◌, ℕ, ◌<◌, Bool, true, false, List, length, Some, None, Option, sym, refl, ap, ◌∙◌, subst, ⊎_elim}
+use Rattle.std.proofs.Common.{◌≡◌, ℕ, ◌<◌, Bool, true, false, List, length, Some, sym, refl, ap, ◌∙◌, subst, ⊎_elim}
 use Rattle.std.proofs.lemmas.List.{get_or_past}
 use Rattle.std.proofs.lemmas.Bool.{both_ways, cases_lt, cases_Bool, false≢true}
 use Rattle.boards.specs.Meaning.{Meaning, landing_at}
-use Rattle.linkages.specs.Lists.{Mem, Next}
 use Rattle.linkages.specs.Paths.{Unbarred}
 use Rattle.linkages.specs.Nets.{OffNets, Exit, off_nets, along}
-use Rattle.linkages.proofs.Nexts.{next_left}
 use Rattle.records.specs.declared.record.Record.{Record}
 use Rattle.records.specs.declared.record.Record.TheVariants.{Free, Barred, Net}
 use Rattle.records.specs.Records.{before_of, is_net, is_barred, record_at}
-use Rattle.drawings.specs.Nets.{before_at, after_at, net_at, barred_at, bars, nets}
+use Rattle.drawings.specs.Nets.{before_at, net_at, barred_at, bars, nets}
 use Rattle.drawings.specs.Lawful.{Lawful}
-use Rattle.drawings.specs.Links.{Linked}
 use Rattle.drawings.proofs.Cells.{kept_below, below_kept}
 use Rattle.drawings.proofs.Said.{none_not_some, some_same, before_net, after_net, net_unbarred, net_inside}
 use Rattle.drawings.proofs.Linking.{linked}

@@ -1,17 +1,15 @@
 -- How the search for a way for a pad ends.
-use Rattle.std.proofs.Common.{◌≡◌, ℕ, ◌+◌, ◌-◌, ◌*◌, ◌<◌, ◌≤◌, Bool, true, false, ◌⊎◌, List, [], ◌∷◌, ◌++◌, length, get_or, take, drop, replicate, sym, refl, ap, ◌∙◌, subst, inl, inr, ⊎_elim, arith}
+use Rattle.std.proofs.Common.{◌≡◌, ℕ, ◌-◌, ◌<◌, true, false, List, ◌∷◌, ◌++◌, length, get_or, take, drop, replicate, sym, subst, ⊎_elim, arith}
 use Rattle.std.proofs.lemmas.List.{get_or_past, get_or-replicate, length-replicate, take_rest}
 use Rattle.std.proofs.lemmas.Bool.{both_ways, cases_lt, and_parts}
 use Rattle.boards.specs.Meaning.{Meaning, Bounded, pad_at, landing_at}
 use Rattle.linkages.specs.Lists.{Mem}
-use Rattle.linkages.specs.Paths.{CanBeMet}
 use Rattle.linkages.specs.Fences.{Fence}
-use Rattle.linkages.specs.Nets.{pads_of, Failed, Trapped}
+use Rattle.linkages.specs.Nets.{Failed, Trapped}
 use Rattle.linkages.proofs.OnBoard.{paths_stay_on_board}
-use Rattle.linkages.proofs.SearchFence.{shown_fences, trapped_cannot_be_met}
-use Rattle.linkages.proofs.Fewer.{linkage_for_less}
+use Rattle.linkages.proofs.SearchFence.{shown_fences}
 use Rattle.records.specs.declared.record.Record.{Record}
-use Rattle.drawings.specs.Nets.{net_at, first_at, barred_at, wired, bars, nets, used}
+use Rattle.drawings.specs.Nets.{net_at, first_at, barred_at, wired, bars, nets}
 use Rattle.drawings.specs.Changes.{written}
 use Rattle.drawings.specs.Lawful.{Lawful}
 use Rattle.drawings.proofs.Cells.{kept_below}

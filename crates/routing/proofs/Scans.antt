@@ -1,9 +1,8 @@
 -- A search from its first cell to its end.
-use Rattle.std.proofs.Common.{◌≡◌, ℕ, zero, suc, ◌+◌, ◌<◌, ◌≤◌, Bool, true, false, ◌⊎◌, List, length, get_or, set, Some, None, Option, sym, refl, ap, ◌∙◌, subst, inl, inr, ⊎_elim, not-suc-le-zero, arith}
-use Rattle.std.proofs.lemmas.List.{get_or-set_same, get_or-set_other}
-use Rattle.std.proofs.lemmas.Bool.{both_ways, cases_lt, cases_eq, cases_Bool}
+use Rattle.std.proofs.Common.{◌≡◌, ℕ, zero, suc, ◌+◌, ◌<◌, ◌≤◌, true, false, List, length, get_or, Some, None, sym, refl, ap, ◌∙◌, subst, ⊎_elim, not-suc-le-zero, arith}
+use Rattle.std.proofs.lemmas.List.{get_or-set_same}
+use Rattle.std.proofs.lemmas.Bool.{both_ways, cases_lt, cases_eq}
 use Rattle.boards.specs.Meaning.{Meaning, Bounded, outlets_of, outlet_at, landing_at}
-use Rattle.boards.specs.Meanings.{outlet_inside}
 use Rattle.linkages.specs.Lists.{Mem}
 use Rattle.linkages.specs.Nets.{Entered, start, onward, backward, Failed}
 use Rattle.linkages.proofs.NetLists.{failed_from_closed}
@@ -14,7 +13,7 @@ use Rattle.drawings.specs.Lawful.{Lawful}
 use Rattle.drawings.proofs.Outlets.{outlet_mem, mem_outlet}
 use Rattle.drawings.proofs.Said.{none_not_some, some_same}
 use Rattle.rewiring.specs.Trails.{exit_of, Enters, back, onward as goes-onward}
-use Rattle.routing.specs.Searches.{Notes, notes, was_entered, cell_at, from_at, open_at, entered_also, visited, Searching, NoneOpen, Closed, Waiting, Scanning, Came}
+use Rattle.routing.specs.Searches.{Notes, notes, was_entered, cell_at, from_at, open_at, entered_also, visited, Searching, Waiting, Scanning, Came}
 use Rattle.routing.proofs.Noting as note
 use Rattle.routing.proofs.Exits as exits
 

@@ -1,21 +1,20 @@
 -- What a search that found no way shows.
-use Rattle.std.proofs.Common.{◌≡◌, ℕ, zero, suc, ◌+◌, ◌<◌, ◌≤◌, Bool, true, false, cond, not, ◌&&◌, ◌||◌, eqb, ◌⊎◌, List, [], ◌∷◌, length, Some, None, filter, Option, sym, refl, ap, ◌∙◌, subst, inl, inr, ⊎_elim, arith}
+use Rattle.std.proofs.Common.{◌≡◌, ℕ, zero, suc, ◌+◌, ◌<◌, ◌≤◌, Bool, true, false, cond, ◌||◌, eqb, List, ◌∷◌, length, Some, None, filter, sym, refl, ap, ◌∙◌, subst, ⊎_elim, arith}
 use Rattle.std.specs.List.{range_with_len}
 use Rattle.std.proofs.lemmas.Bool.{both_ways, cases_Bool, and_parts, and_from, or_cases, or_left, or_right, eqb-true, eq-eqb, not-true, not_from_false, false≢true}
 use Rattle.boards.specs.Meaning.{Meaning}
 use Rattle.linkages.specs.Lists.{Mem, here, there, Next}
-use Rattle.linkages.specs.Nets.{pads_of, LastEntered, Shows}
+use Rattle.linkages.specs.Nets.{pads_of, Shows}
 use Rattle.linkages.proofs.Members.{mem_none, mem_cases, mem_of_kept}
 use Rattle.linkages.proofs.Nexts.{next_left}
 use Rattle.linkages.proofs.NetLists.{same_net}
 use Rattle.records.specs.declared.record.Record.{Record}
 use Rattle.records.specs.declared.record.Record.TheVariants.{Free, Barred, Net}
 use Rattle.records.specs.Records.{after_of, is_net, record_at}
-use Rattle.drawings.specs.Nets.{after_at, net_at, first_at, wired, bars, nets}
+use Rattle.drawings.specs.Nets.{first_at, bars, nets}
 use Rattle.drawings.specs.Lawful.{Lawful}
-use Rattle.drawings.specs.Links.{Linked}
 use Rattle.drawings.proofs.Cells.{kept_below, below_kept, distinct_kept_below}
-use Rattle.drawings.proofs.Said.{none_not_some, some_same, first_net, net_inside}
+use Rattle.drawings.proofs.Said.{none_not_some, some_same, net_inside}
 use Rattle.drawings.proofs.Linking.{linked}
 use Rattle.routing.specs.Searches.{was_entered}
 use Rattle.routing.specs.Showing.{shows_pad, no_further, shows_cell, shown_pads, shown_cells, Rising}

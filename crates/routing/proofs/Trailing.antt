@@ -1,12 +1,12 @@
 -- The course of a search that came to a landing is a trail.
-use Rattle.std.proofs.Common.{◌≡◌, ℕ, ◌+◌, ◌<◌, ◌≤◌, Bool, true, false, ◌⊎◌, List, [], ◌∷◌, length, get_or, sym, refl, ap, ◌∙◌, subst, inl, inr, ⊎_elim, arith}
+use Rattle.std.proofs.Common.{◌≡◌, ℕ, ◌<◌, ◌≤◌, true, false, List, [], ◌∷◌, length, sym, refl, ap, ◌∙◌, subst, ⊎_elim, arith}
 use Rattle.std.proofs.lemmas.Bool.{both_ways, cases_lt}
 use Rattle.boards.specs.Meaning.{Meaning, pad_at, landing_at}
 use Rattle.linkages.specs.Lists.{Mem, here, there, Distinct, Next, begins, goes_on}
 use Rattle.linkages.proofs.Members.{mem_none}
 use Rattle.records.specs.declared.record.Record.{Record}
 use Rattle.records.specs.Records.{record_at}
-use Rattle.drawings.specs.Nets.{net_at, first_at, barred_at}
+use Rattle.drawings.specs.Nets.{first_at, barred_at}
 use Rattle.rewiring.specs.Trails.{Enters, Trail}
 use Rattle.routing.specs.Searches.{Notes, cell_at, from_at, open_at, Searching, Came}
 use Rattle.routing.specs.Courses.{Course, arrives, comes}

@@ -162,7 +162,7 @@ fn list_sorted(heap: Global, report: &[u16], from: u16, count: u16) -> Result<St
         .take(count as usize)
         .copied()
         .collect(heap)?;
-    numbers.sort();
+    numbers.sort()?;
     let mut text = String::new(heap);
     for number in numbers.iter() {
         if !text.is_empty() {

@@ -1,5 +1,5 @@
 -- The conditions of the calls, said of the drawing that stands and of the book.
-use Rattle.std.proofs.Common.{◌≡◌, ℕ, ◌<◌, ◌≤◌, Bool, true, false, not, eqb, ◌⊎◌, List, [], ◌∷◌, length, get_or, Ok, Err, Result, sym, refl, ap, ◌∙◌, inl, inr, ⊎_elim, arith}
+use Rattle.std.proofs.Common.{◌≡◌, ℕ, ◌<◌, Bool, true, false, not, eqb, List, ◌∷◌, length, Ok, Err, Result, sym, refl, ap, ◌∙◌, inl, inr, ⊎_elim}
 use Rattle.std.proofs.lemmas.List.{get_or_past}
 use Rattle.std.proofs.lemmas.Bool.{cases_lt, cases_Bool, both_ways, false≢true}
 use Rattle.boards.specs.Meaning.{Meaning}
@@ -9,7 +9,7 @@ use Rattle.linkages.proofs.Members.{mem_kept, mem_of_kept}
 use Rattle.records.specs.declared.record.Record.{Record}
 use Rattle.records.specs.declared.record.Record.TheVariants.{Free}
 use Rattle.records.specs.Records.{record_at, is_first, is_barred}
-use Rattle.drawings.specs.Nets.{first_at, barred_at, wired, bars, without}
+use Rattle.drawings.specs.Nets.{first_at, barred_at, without}
 use Rattle.drawings.specs.Conditions.{LiftRefused, ClearRefused}
 use Rattle.drawings.proofs.Cells.{kept_below, below_kept}
 use Rattle.linkages.proofs.Fewer.{linkage_for_less}

@@ -1,5 +1,5 @@
 -- The whole claim, from an upheld history and one call more.
-use Rattle.std.proofs.Common.{◌≡◌, ℕ, List, ◌∷◌, Result, sym, subst}
+use Rattle.std.proofs.Common.{◌≡◌, ℕ, List, ◌∷◌, Result, subst}
 use Rattle.boards.specs.Meaning.{Meaning}
 use Rattle.records.specs.declared.record.Record.{Record}
 use Rattle.records.specs.declared.refusal.Refusal.{Refusal}

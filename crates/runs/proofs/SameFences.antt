@@ -1,18 +1,17 @@
 -- Two refusals for want of a way with the same pads and bars to be met show the same fence.
-use Rattle.std.proofs.Common.{◌≡◌, ℕ, Bool, true, false, not, eqb, ◌⊎◌, List, [], ◌∷◌, map, Ok, Err, filter, sym, refl, ap, ◌∙◌, subst, inl, inr, ⊎_elim, arith}
-use Rattle.std.proofs.lemmas.Bool.{cases_Bool, cases_eq, eq-eqb, ne_eqb, not-true, both_ways, not_from_false}
+use Rattle.std.proofs.Common.{◌≡◌, ℕ, Bool, true, false, not, eqb, ◌⊎◌, List, ◌∷◌, Err, filter, sym, refl, ap, ◌∙◌, subst, inl, inr, ⊎_elim, arith}
+use Rattle.std.proofs.lemmas.Bool.{cases_Bool, cases_eq, eq-eqb, ne_eqb, not-true, both_ways}
 use Rattle.boards.specs.Meaning.{Meaning}
 use Rattle.boards.specs.Refusals.{Answer}
-use Rattle.linkages.specs.Lists.{Mem, here, there, Within, Same}
+use Rattle.linkages.specs.Lists.{Mem, here, there, Within}
 use Rattle.linkages.specs.Paths.{CanBeMet}
-use Rattle.linkages.specs.Nets.{Wiring, OffNets, pads_of, first_of}
+use Rattle.linkages.specs.Nets.{pads_of, first_of}
 use Rattle.linkages.proofs.Members.{mem_at, mem_cases, mem_kept, mem_of_kept, mem_map, mem_of_map}
 use Rattle.linkages.proofs.Walks.{walk_unbarred}
 use Rattle.linkages.proofs.Fewer.{linkage_for_less}
 use Rattle.linkages.proofs.NetLists.{same_net, wiring_kept, wiring_under, nets_link}
 use Rattle.linkages.proofs.SameMembers.{fences_agree}
 use Rattle.records.specs.declared.record.Record.{Record}
-use Rattle.records.specs.declared.refusal.Refusal.{Refusal}
 use Rattle.records.specs.declared.refusal.Refusal.TheVariants.{NoWay}
 use Rattle.drawings.specs.Nets.{wired, bars, nets, net_at}
 use Rattle.records.specs.Numbers.{number_of}

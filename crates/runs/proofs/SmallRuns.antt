@@ -1,13 +1,13 @@
 -- The only outcomes of the calls on the small boards.
-use Rattle.std.proofs.Common.{◌≡◌, ℕ, zero, suc, ◌+◌, ◌*◌, ◌<◌, ◌≤◌, Bool, true, false, ◌&&◌, ◌⊎◌, List, [], ◌∷◌, length, take, drop, replicate, Ok, Err, Result, sym, refl, ap, ◌∙◌, subst, inl, inr, ⊎_elim, arith, length-drop}
+use Rattle.std.proofs.Common.{◌≡◌, ℕ, zero, suc, ◌<◌, ◌≤◌, true, false, ◌&&◌, List, [], ◌∷◌, length, take, drop, replicate, Ok, Err, Result, sym, refl, ap, ◌∙◌, subst, inl, inr, ⊎_elim, arith, length-drop}
 use Rattle.std.proofs.lemmas.List.{length-take-le}
 use Rattle.std.proofs.lemmas.Bool.{cases_order, and_parts, false≢true}
 use Rattle.boards.specs.Meaning.{Meaning, landing_at}
 use Rattle.boards.specs.Refusals.{Answer}
-use Rattle.linkages.specs.Lists.{Mem, here, there, Within, Same, Distinct}
+use Rattle.linkages.specs.Lists.{here, there, Within, Same, Distinct}
 use Rattle.linkages.specs.Paths.{CanBeMet}
 use Rattle.linkages.specs.Fences.{Fence}
-use Rattle.linkages.proofs.Members.{mem_none, mem_cases, mem_one}
+use Rattle.linkages.proofs.Members.{mem_none, mem_one}
 use Rattle.linkages.proofs.Fewer.{linkage_for_less}
 use Rattle.linkages.proofs.OneFence.{no_linkage}
 use Rattle.linkages.proofs.Pigeons.{same_length}
@@ -17,14 +17,13 @@ use Rattle.records.specs.declared.record.Record.{Record}
 use Rattle.records.specs.declared.record.Record.TheVariants.{Free}
 use Rattle.records.specs.declared.refusal.Refusal.{Refusal}
 use Rattle.records.specs.declared.refusal.Refusal.TheVariants.{WrongDrawing, ShortWork, ShortReport, NotLawful, NoSuchCell, NotPad, WiredAlready, NotWired, BarredAlready, NotBarred, WiredPad, NoWay}
-use Rattle.drawings.specs.Nets.{wired, bars, used, net_at}
+use Rattle.drawings.specs.Nets.{bars, net_at}
 use Rattle.records.specs.Numbers.{number_of}
 use Rattle.drawings.proofs.Cells.{kept_below}
-use Rattle.runs.specs.declared.calls.Kind.{Kind}
-use Rattle.runs.specs.declared.calls.Kind.TheVariants.{Place, Lift, Bar, Clear}
+use Rattle.runs.specs.declared.calls.Kind.TheVariants.{Place, Bar}
 use Rattle.runs.specs.Histories.{Event, Book, empty_book, pads_to_meet, bars_to_meet}
 use Rattle.runs.specs.Claim.{Refused, ShowsFence}
-use Rattle.runs.specs.Steps.{event, Performs}
+use Rattle.runs.specs.Steps.{event}
 use Rattle.runs.specs.SmallRuns.{row_field, one_point, Always, Refuses, Shows, ZeroWired, SmallRuns}
 use Rattle.runs.proofs.Standing.{Standing, standing}
 use Rattle.runs.proofs.Shown.{fence_booked}

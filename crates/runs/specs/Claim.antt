@@ -1,13 +1,11 @@
 -- What holds of every run of calls: the drawing is lawful and holds what was accepted, every refusal has its number, a refusal for
 -- want of a way shows a fence, and the fence depends on nothing but the board, the pads and the bars.
-use Rattle.std.specs.Prelude.{◌≡◌, ℕ, ◌+◌, ◌*◌, ◌<◌, ◌≤◌, true, false, ◌⊎◌, List, [], ◌∷◌, length, take, drop, Ok, Err, Result}
+use Rattle.std.specs.Prelude.{◌≡◌, ℕ, ◌+◌, ◌*◌, ◌<◌, ◌≤◌, false, ◌⊎◌, List, [], ◌∷◌, length, take, drop, Err}
 use Rattle.boards.specs.Meaning.{Meaning, pad_at}
 use Rattle.boards.specs.Refusals.{Answer}
 use Rattle.linkages.specs.Lists.{Mem, Same}
 use Rattle.linkages.specs.Paths.{CanBeMet}
 use Rattle.linkages.specs.Fences.{Fence}
-use Rattle.records.specs.declared.record.Record.{Record}
-use Rattle.records.specs.declared.refusal.Refusal.{Refusal}
 use Rattle.records.specs.declared.refusal.Refusal.TheVariants.{NoWay}
 use Rattle.drawings.specs.Nets.{wired, bars}
 use Rattle.records.specs.Numbers.{number_of}

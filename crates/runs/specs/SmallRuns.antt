@@ -13,7 +13,7 @@ use Rattle.drawings.specs.Nets.{wired, bars}
 use Rattle.records.specs.Numbers.{number_of}
 use Rattle.drawings.specs.Lawful.{Lawful}
 use Rattle.runs.specs.declared.calls.Kind.{Kind}
-use Rattle.runs.specs.declared.calls.Kind.TheVariants.{Place, Lift, Bar, Clear}
+use Rattle.runs.specs.declared.calls.Kind.TheVariants.{Place, Bar}
 use Rattle.runs.specs.Steps.{Performs}
 
 -- one row of three points: pads at columns 0 and 1, a landing at column 2; cells 0, 1, 2 on layer 1 and 3, 4, 5 below them

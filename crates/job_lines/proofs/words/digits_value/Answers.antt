@@ -1,4 +1,4 @@
-use Rattle.std.proofs.Common.{◌-◌, ◌<◌, ◌≤◌, length, get_or, take, arith, length-take, take_all}
+use Rattle.std.proofs.Common.{◌<◌, ◌≤◌, length, get_or, take, arith, length-take, take_all}
 use Rattle.std.specs.Char.{digit_value as digitValue}
 use Rattle.std.proofs.lemmas.Int.Digits.{digits_more, digits_value_more}
 use Rattle.std.proofs.lemmas.Str.Parse.{digit_at, digits_value_short}

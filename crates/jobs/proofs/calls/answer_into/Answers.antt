@@ -13,7 +13,7 @@ returns-in_default g c = record {
 pub returns-then-not-fits : goal.returns-then-not-fits
 returns-then-not-fits g c =
     let said = c.args.said.now in
-    let answer = c.in_ok-answer.answer in
+    let answer = c.in_ok-answer-in-Ok.answer in
     record {
       done = λ p S. (
         refl,
@@ -21,17 +21,17 @@ returns-then-not-fits g c =
           refl,
           (
             vec_items answer,
-            line_answered p _ _ _ _ _ _ _ _ (vec_items answer) S c.in-Some.ensures (c.in-Ok.ensures p S.names) c.in_ok-answer.ensures.answered,
+            line_answered p _ _ _ _ _ _ _ _ (vec_items answer) S c.in-Some.ensures (c.in-Ok.ensures p S.names) c.in_ok-answer-in-Ok.ensures.answered,
             omega (arith, no_room c.args.room c.len.result c.len-in-Ok.result c.if-not-fits.ensures.1, c.len.ensures, c.len-in-Ok.ensures, said.ok.0, answer.ok.0),
           ),
         ),
       );
-      ready = c.in_ok-answer.ensures.ready;
+      ready = c.in_ok-answer-in-Ok.ensures.ready;
     }
 
-pub returns-in_err-extend_from_slice : goal.returns-in_err-extend_from_slice
-returns-in_err-extend_from_slice g c =
-    let e = c.from_residual-in_err-extend_from_slice.ensures.0 in
+pub returns-in_err-extend_from_slice-in-Ok : goal.returns-in_err-extend_from_slice-in-Ok
+returns-in_err-extend_from_slice-in-Ok g c =
+    let e = c.from_residual-in_err-extend_from_slice-in-Ok.ensures.0 in
     record { done = IfOk-from_err _ _ e; ready = IfOk-from_err _ _ e }
 
 pub returns-in-Err : goal.returns-in-Err
@@ -40,16 +40,16 @@ returns-in-Err g c = record {
   ready = c.requires;
 }
 
-pub returns-in_ok-extend_from_slice : goal.returns-in_ok-extend_from_slice
-returns-in_ok-extend_from_slice g c =
+pub returns-in_ok-extend_from_slice-in-Ok : goal.returns-in_ok-extend_from_slice-in-Ok
+returns-in_ok-extend_from_slice-in-Ok g c =
     let said = c.args.said.now in
-    let answer = c.in_ok-answer.answer in
+    let answer = c.in_ok-answer-in-Ok.answer in
     record {
       done = λ p S. (
         vec_items answer,
-        line_answered p _ _ _ _ _ _ _ _ (vec_items answer) S c.in-Some.ensures (c.in-Ok.ensures p S.names) c.in_ok-answer.ensures.answered,
+        line_answered p _ _ _ _ _ _ _ _ (vec_items answer) S c.in-Some.ensures (c.in-Ok.ensures p S.names) c.in_ok-answer-in-Ok.ensures.answered,
         omega (arith, c.if-not-fits.ensures.0 refl, c.len.ensures, c.len-in-Ok.ensures, said.ok.0, answer.ok.0),
-        c.in_ok-extend_from_slice.ensures.items ∙ ap (λ x. vec_items said ++ x) c.as_slice.ensures.value,
+        c.in_ok-extend_from_slice-in-Ok.ensures.items ∙ ap (λ x. vec_items said ++ x) c.as_slice.ensures.value,
       );
-      ready = c.in_ok-answer.ensures.ready;
+      ready = c.in_ok-answer-in-Ok.ensures.ready;
     }

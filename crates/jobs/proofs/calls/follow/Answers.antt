@@ -1,6 +1,5 @@
-use Rattle.std.proofs.Common.{◌≡◌, ℕ, List, vec_items, sym, ap, subst}
+use Rattle.std.proofs.Common.{vec_items, ap}
 use Rattle.std.proofs.lemmas.Result.{IfOk-weaker}
-use Rattle.jobs.specs.Calls.{Wish, Answered}
 use Rattle.jobs.specs.Steps.{wish_of}
 use Rattle.jobs.proofs.Calling.{call_answered}
 use Rattle.jobs.proofs.calls.follow.Goals as goal

@@ -1,4 +1,4 @@
-use Rattle.std.proofs.Common.{length, sym, ap, ◌∙◌, inr, arith}
+use Rattle.std.proofs.Common.{length, sym, ap, inr, arith}
 use Rattle.std.proofs.lemmas.List.{with_items_is}
 use Rattle.jobs.proofs.Calling.{made_call, ready_then}
 use Rattle.jobs.proofs.calls.make_call.Goals as goal

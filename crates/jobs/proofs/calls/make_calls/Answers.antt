@@ -1,7 +1,5 @@
-use Rattle.std.proofs.Common.{◌≡◌, ℕ, suc, ◌+◌, List, [], ◌++◌, vec_items, sym, refl, ap, ◌∙◌, subst, arith}
-use Rattle.records.specs.declared.record.Record.{Record}
+use Rattle.std.proofs.Common.{suc, [], ◌++◌, vec_items, ap, ◌∙◌, arith}
 use Rattle.job_lines.specs.Lines.{lines_of}
-use Rattle.jobs.specs.Calls.{Calls, none_yet}
 use Rattle.jobs.proofs.Looping.{calls_more, calls_end, calls_done}
 use Rattle.jobs.proofs.Starting.{calls_begin}
 use Rattle.jobs.proofs.calls.make_calls.Goals as goal

@@ -1,4 +1,4 @@
-use Rattle.std.proofs.Common.{◌++◌, length, vec_items, refl, ap, ◌∙◌, inl, inr, ⊎_elim, arith}
+use Rattle.std.proofs.Common.{length, refl, ap, ◌∙◌, inl, inr, ⊎_elim, arith}
 use Rattle.drawings.specs.Changes.{written}
 use Rattle.jobs.specs.Jobs.{too_large, no_memory}
 use Rattle.jobs.proofs.Running.{not_large, said_fits, ran}

@@ -1,4 +1,4 @@
-use Rattle.std.proofs.Common.{◌≡◌, ℕ, List, map, vec_items, sym, ap, ◌∙◌, subst}
+use Rattle.std.proofs.Common.{map, vec_items, sym, ap, ◌∙◌, subst}
 use Rattle.std.proofs.lemmas.Result.{IfOk-weaker}
 use Rattle.boards.specs.declared.field.Field.{Field}
 use Rattle.boards.specs.declared.escape.Escape.{Escape}

@@ -1,11 +1,10 @@
-use Rattle.std.proofs.Common.{◌≡◌, ℕ, ◌-◌, ◌*◌, ◌≤◌, true, false, ◌∷◌, ◌++◌, length, set, sym, refl, ap, ◌∙◌, subst, arith}
+use Rattle.std.proofs.Common.{◌≡◌, ◌-◌, ◌*◌, true, false, ◌∷◌, sym, refl, ap, ◌∙◌, subst, arith}
 use Rattle.std.proofs.lemmas.List.{length-take-le}
-use Rattle.records.specs.declared.record.Record.TheVariants.{Barred}
 use Rattle.records.specs.Records.{is_net, record_at}
 use Rattle.drawings.specs.Nets.{net_at, wired, bars}
 use Rattle.drawings.specs.Conditions.{HasNoWay}
 use Rattle.routing.specs.Conditions.{BarStopped}
-use Rattle.routing.specs.Outcomes.{Zeroed, BarredAlso}
+use Rattle.routing.specs.Outcomes.{BarredAlso}
 use Rattle.routing.proofs.Answering.{first_early, first_last, none_holds, leaves_early, bar_early, no_way, zeroed}
 use Rattle.routing.proofs.Barring.{bar_free, met_barred, as_free, as_net, free_is}
 use Rattle.routing.proofs.bar.bar.Goals as goal

@@ -1,4 +1,4 @@
-use Rattle.std.proofs.Common.{◌≡◌, sym, ap, ◌∙◌, arith}
+use Rattle.std.proofs.Common.{sym, ◌∙◌, arith}
 use Rattle.drawings.proofs.Counts.{count_below}
 use Rattle.routing.specs.Showing.{shows_pad}
 use Rattle.routing.proofs.Listing.{listed_more, listed_same}

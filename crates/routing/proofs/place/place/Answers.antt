@@ -1,9 +1,8 @@
-use Rattle.std.proofs.Common.{◌≡◌, ℕ, ◌-◌, ◌*◌, ◌≤◌, ◌∷◌, ◌++◌, length, take, drop, sym, refl, ap, ◌∙◌, subst, arith, length-append, length-drop, length-take}
+use Rattle.std.proofs.Common.{◌≡◌, ◌-◌, ◌*◌, ◌∷◌, ◌++◌, length, drop, refl, ap, ◌∙◌, arith, length-append, length-drop, length-take}
 use Rattle.std.proofs.lemmas.List.{length-take-le}
 use Rattle.drawings.specs.Nets.{wired, bars}
 use Rattle.drawings.specs.Conditions.{HasNoWay}
 use Rattle.routing.specs.Conditions.{PlaceStopped}
-use Rattle.routing.specs.Outcomes.{Zeroed}
 use Rattle.routing.proofs.Answering.{first_early, first_last, none_holds, leaves_early, place_early, can_be_met, no_way, zeroed}
 use Rattle.routing.proofs.place.place.Goals as goal
 

@@ -1,7 +1,6 @@
-use Rattle.std.proofs.Common.{◌≡◌, length, sym, ap, ◌∙◌, subst, arith}
+use Rattle.std.proofs.Common.{length, sym, ap, ◌∙◌, subst, arith}
 use Rattle.linkages.specs.Lists.{Mem, there}
-use Rattle.records.specs.Records.{before_of, record_at}
-use Rattle.drawings.specs.Nets.{net, net_at, Runs}
+use Rattle.records.specs.Records.{before_of}
 use Rattle.drawings.proofs.Follow.{run_short}
 use Rattle.routing.proofs.Barring.{net_begins, net_back_step}
 use Rattle.routing.proofs.reroute.first_of.Goals as goal

@@ -1,7 +1,5 @@
-use Rattle.std.proofs.Common.{◌≡◌, ℕ, length, get_or, Some, None, sym, refl, ap, ◌∙◌, subst, arith}
-use Rattle.std.proofs.lemmas.List.{length-replicate}
-use Rattle.linkages.specs.Nets.{Failed}
-use Rattle.routing.specs.Searches.{notes, was_entered, Came, Ended}
+use Rattle.std.proofs.Common.{length, get_or, refl, ap, ◌∙◌, subst, arith}
+use Rattle.routing.specs.Searches.{notes, Came, Ended}
 use Rattle.routing.proofs.Routes.{zero_at, written_trail, wired_also, pad_inside, fence_shown}
 use Rattle.routing.proofs.route.route.Goals as goal
 

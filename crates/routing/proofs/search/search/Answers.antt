@@ -1,7 +1,6 @@
-use Rattle.std.proofs.Common.{◌≡◌, ℕ, ◌+◌, ◌<◌, length, sym, ap, ◌∙◌, subst, arith}
-use Rattle.boards.specs.Meaning.{Meaning}
+use Rattle.std.proofs.Common.{◌≡◌, ◌+◌, ◌<◌, length, sym, ◌∙◌, subst, arith}
 use Rattle.boards.specs.Meanings.{outlet_inside}
-use Rattle.routing.specs.Searches.{Notes, notes, visited, Waiting, Scanning, Came}
+use Rattle.routing.specs.Searches.{notes, visited, Waiting, Scanning, Came}
 use Rattle.routing.proofs.Noting.{same_notes, room}
 use Rattle.routing.proofs.Scans.{begins, came_at_once, scan_begins, scan_more, scan_past, scan_came, scan_ends, wait_past, wait_ends}
 use Rattle.routing.proofs.search.search.Goals as goal

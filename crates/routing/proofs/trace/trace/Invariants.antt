@@ -1,4 +1,4 @@
-use Rattle.std.proofs.Common.{◌≡◌, ◌<◌, ◌≤◌, length, drop}
+use Rattle.std.proofs.Common.{◌<◌, ◌≤◌, length, drop}
 use Rattle.routing.specs.Courses.{Course}
 use Rattle.routing.proofs.trace.trace.Given as goal
 

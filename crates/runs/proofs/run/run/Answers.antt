@@ -1,4 +1,4 @@
-use Rattle.std.proofs.Common.{◌≡◌, ℕ, ◌<◌, [], ◌∷◌, length, refl, ◌∙◌, subst, arith, length-set}
+use Rattle.std.proofs.Common.{◌≡◌, ℕ, ◌<◌, [], length, refl, ◌∙◌, subst, arith, length-set}
 use Rattle.runs.specs.Told.{Told, nothing}
 use Rattle.runs.proofs.Claiming.{claim_of, upholds_more}
 use Rattle.runs.proofs.Telling.{fresh, told_more, later}

@@ -1,4 +1,3 @@
-use Rattle.std.proofs.Common.{◌∷◌}
 use Rattle.runs.proofs.Claiming.{claims}
 use Rattle.runs.proofs.step.step.Goals as goal
 

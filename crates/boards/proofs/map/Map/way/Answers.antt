@@ -1,4 +1,4 @@
-use Rattle.std.proofs.Common.{sym, arith, rules}
+use Rattle.std.proofs.Common.{sym, arith}
 use Rattle.boards.specs.GridsLemmas.{cell_below, beside_leads}
 use Rattle.boards.proofs.map.Map.way.Goals as goal
 

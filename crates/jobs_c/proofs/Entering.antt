@@ -1,10 +1,10 @@
 -- The call from C: a job is run on the front of the output memory.
-use Rattle.std.proofs.Common.{◌≡◌, ℕ, ◌+◌, ◌*◌, ◌^◌, ◌≤◌, min, List, ◌++◌, length, take, drop, Option, sym, ap, ◌∙◌, subst, arith}
+use Rattle.std.proofs.Common.{◌≡◌, ℕ, ◌+◌, ◌*◌, ◌^◌, ◌≤◌, List, ◌++◌, length, take, drop, Option, sym, ap, ◌∙◌, subst}
 use native.Mathlib.Nat.{min-le_left}
 use Rattle.std.proofs.lemmas.List.{length-take-le, take_at, drop_at}
 use Rattle.jobs.specs.declared.job.JobFault.{JobFault}
 use Rattle.jobs.specs.Jobs.{end_number, JobRun}
-use Rattle.jobs.specs.Entry.{Entered, used}
+use Rattle.jobs_c.specs.Entry.{Entered, used}
 
 module _ (text output part : List ℕ) (bytes number : ℕ) (fault : Option JobFault) where
   pub entered_at : (u : ℕ) → u ≡ used output → length part ≡ length (take u output) → JobRun text (take u output) part bytes fault → number ≡ end_number fault →

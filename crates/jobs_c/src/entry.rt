@@ -1,7 +1,7 @@
 // The call that the editor makes, from C.
-ghost use Rattle.jobs.specs.Entry.{Entered};
+ghost use Rattle.jobs_c.specs.Entry.{Entered};
 
-use crate::job::run_job;
+use jobs::job::run_job;
 use std::alloc::Global;
 
 // Runs a job and answers the bytes written x 256 + the number of the fault, or 0 for none. Of output memory that is larger than

@@ -1,7 +1,7 @@
 use Rattle.std.proofs.Common.{◌∙◌}
 use native.Mathlib.Nat.{sub-zero}
-use Rattle.jobs.proofs.Entering.{entered_at}
-use Rattle.jobs.proofs.entry.sumoalder_run_job.Goals as goal
+use Rattle.jobs_c.proofs.Entering.{entered_at}
+use Rattle.jobs_c.proofs.entry.sumoalder_run_job.Goals as goal
 
 pub returns : goal.returns
 returns c =
