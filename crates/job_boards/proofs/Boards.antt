@@ -1,7 +1,7 @@
 -- The board of a sound plan: the map check accepts its map, and what is kept out are its cells.
 use Rattle.std.proofs.Common.{◌≡◌, ℕ, ◌*◌, ◌<◌, Bool, ltb, List, [], ◌∷◌, filter, refl, ap, ◌∙◌, ⊎_elim, arith}
 use mathlib.Core.Path.{fun_ext}
-use Rattle.std.specs.List.{AllByRecursion as All}
+use Rattle.std.specs.List.{AllByRecursion}
 use Rattle.std.proofs.lemmas.Bool.{cond-true, lt-ltb}
 use Rattle.boards.specs.declared.maps.MapKind.{MapKind}
 use Rattle.boards.specs.declared.maps.MapKind.TheVariants.{FieldMap, EscapeMap}
@@ -21,7 +21,7 @@ cells_of_base : (kind : MapKind) (R C : ℕ) (bytes : List ℕ) → (base kind R
 cells_of_base FieldMap R C bytes = refl
 cells_of_base EscapeMap R C bytes = refl
 
-all_kept : (n : ℕ) (xs : List ℕ) → All (λ x. x < n) xs → filter (λ x. ltb x n) xs ≡ xs
+all_kept : (n : ℕ) (xs : List ℕ) → AllByRecursion (λ x. x < n) xs → filter (λ x. ltb x n) xs ≡ xs
 all_kept n [] h = refl
 all_kept n (x ∷ xs) h = cond-true _ _ _ (lt-ltb x n h.0) ∙ ap (λ ys. x ∷ ys) (all_kept n xs h.1)
 

@@ -1,6 +1,6 @@
 -- The board that the first lines of a job describe.
 use Rattle.std.specs.Prelude.{◌≡◌, ℕ, ◌+◌, ◌*◌, ◌<◌, ◌≤◌, Bool, false, cond, ◌||◌, List, [], ◌∷◌, ◌++◌, length, replicate, ◌==◌, slice_index, slice_set}
-use Rattle.std.specs.List.{AllByRecursion as All}
+use Rattle.std.specs.List.{AllByRecursion}
 use Rattle.boards.specs.declared.maps.MapKind.{MapKind}
 use Rattle.boards.specs.declared.maps.MapKind.TheVariants.{FieldMap, EscapeMap}
 use Rattle.boards.specs.declared.place.Place.{Place}
@@ -110,5 +110,5 @@ pub record Sound (p : Plan) : Type 0 where
   pub full : length p.map ≡ p.rows * p.columns
   pub bytes : (i : ℕ) → slice_index p.map i ≤ last_named p.kind
   pub few : length p.pads ≤ 128
-  pub on_board : All (λ q. (q.row < p.rows) × (q.column < p.columns)) p.pads
-  pub cells : All (λ c. c < layers p.kind * (p.rows * p.columns)) p.kept
+  pub on_board : AllByRecursion (λ q. (q.row < p.rows) × (q.column < p.columns)) p.pads
+  pub cells : AllByRecursion (λ c. c < layers p.kind * (p.rows * p.columns)) p.kept

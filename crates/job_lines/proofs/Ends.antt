@@ -1,7 +1,7 @@
 -- The first line of a text.
 use Rattle.std.proofs.Common.{◌≡◌, ℕ, ◌<◌, List, [], ◌∷◌, ◌++◌, length, sym, refl, ap, ◌∙◌, inl, inr, append_assoc, arith, length-append}
 use Rattle.std.proofs.lemmas.Bool.{ne_eqb, cond-false}
-use Rattle.std.specs.List.{AllByRecursion as All}
+use Rattle.std.specs.List.{AllByRecursion}
 use Rattle.job_lines.specs.Words.{Lacks}
 use Rattle.job_lines.specs.Lines.{begins, lines_of, FirstLine, ended, LinesComeBack}
 
@@ -32,7 +32,7 @@ first_of_one (b ∷ text) line rest some h e k = record {
   shorter = omega (arith, ap length k);
 }
 
-ended_lines : (lines : List (List ℕ)) → All (Lacks 10) lines → lines_of (ended lines) ≡ lines
+ended_lines : (lines : List (List ℕ)) → AllByRecursion (Lacks 10) lines → lines_of (ended lines) ≡ lines
 ended_lines [] h = refl
 ended_lines (line ∷ lines) h = lines_cut line (ended lines) h.0 ∙ ap (λ (ls : List (List ℕ)). line ∷ ls) (ended_lines lines h.1)
 
@@ -40,7 +40,7 @@ one_line : (last : List ℕ) → Lacks 10 last → 0 < length last → lines_of 
 one_line [] k some = let z : ⊥ = omega arith in absurd z
 one_line (b ∷ last) k some = lines_whole b last k
 
-open_lines : (lines : List (List ℕ)) (last : List ℕ) → All (Lacks 10) lines → Lacks 10 last → 0 < length last → lines_of (ended lines ++ last) ≡ lines ++ last ∷ []
+open_lines : (lines : List (List ℕ)) (last : List ℕ) → AllByRecursion (Lacks 10) lines → Lacks 10 last → 0 < length last → lines_of (ended lines ++ last) ≡ lines ++ last ∷ []
 open_lines [] last h k some = one_line last k some
 open_lines (line ∷ lines) last h k some =
     ap lines_of (append_assoc line (10 ∷ ended lines) last) ∙ lines_cut line (ended lines ++ last) h.0

@@ -1,7 +1,7 @@
 -- The lines of a text: each ends with LF, byte 10; the last LF may be missing.
 use Rattle.std.specs.Prelude.{◌≡◌, ℕ, ◌<◌, cond, ◌⊎◌, List, [], ◌∷◌, ◌++◌, length, Some, None, Option, ◌==◌}
 use Rattle.std.specs.Borrow.{Bor}
-use Rattle.std.specs.List.{AllByRecursion as All}
+use Rattle.std.specs.List.{AllByRecursion}
 use Rattle.job_lines.specs.Words.{Lacks}
 
 -- one byte more at the front of the first line
@@ -32,5 +32,5 @@ ended (line ∷ lines) = line ++ 10 ∷ ended lines
 
 -- they are the lines of that text, also where some bytes with no LF follow, which are the last line
 pub record LinesComeBack : Type 0 where
-  pub with_the_last : (lines : List (List ℕ)) → All (Lacks 10) lines → lines_of (ended lines) ≡ lines
-  pub without_it : (lines : List (List ℕ)) (last : List ℕ) → All (Lacks 10) lines → Lacks 10 last → 0 < length last → lines_of (ended lines ++ last) ≡ lines ++ last ∷ []
+  pub with_the_last : (lines : List (List ℕ)) → AllByRecursion (Lacks 10) lines → lines_of (ended lines) ≡ lines
+  pub without_it : (lines : List (List ℕ)) (last : List ℕ) → AllByRecursion (Lacks 10) lines → Lacks 10 last → 0 < length last → lines_of (ended lines ++ last) ≡ lines ++ last ∷ []

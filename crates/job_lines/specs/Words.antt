@@ -1,11 +1,11 @@
 -- Words: numbers, names, and the cutting of a text at a byte.
 use Rattle.std.specs.Prelude.{◌≡◌, ℕ, ◌<◌, ◌≤◌, ◌⊎◌, List, ◌∷◌, ◌++◌, length, Some, None, Option, ◌≢◌}
 use Rattle.std.specs.Borrow.{Bor}
-use Rattle.std.specs.List.{AllByRecursion as All}
+use Rattle.std.specs.List.{AllByRecursion}
 
 -- the byte b stands nowhere in the text
 abbrev pub Lacks : ℕ → List ℕ → Type 0
-Lacks b text = All (λ x. x ≢ b) text
+Lacks b text = AllByRecursion (λ x. x ≢ b) text
 
 -- a text cut at its first b: the part before it and the part after it; or b stands nowhere
 abbrev pub Cut : ℕ → List ℕ → Option (Bor (List ℕ) × Bor (List ℕ)) → Type 0
@@ -30,4 +30,4 @@ NameByte b = ((48 ≤ b) × (b ≤ 57)) ⊎ ((65 ≤ b) × (b ≤ 90))
 pub record Name (word : List ℕ) : Type 0 where
   pub some : 1 ≤ length word
   pub few : length word ≤ 8
-  pub bytes : All NameByte word
+  pub bytes : AllByRecursion NameByte word

@@ -1,6 +1,6 @@
 -- Membership, distinctness, neighbours and walks by places, and the list of the cells below n.
 use Rattle.std.proofs.Common.{◌≡◌, ℕ, zero, suc, ◌+◌, ◌-◌, ◌<◌, List, [], ◌∷◌, length, get_or, sym, refl, not-suc-le-zero, add-one, arith}
-use Rattle.std.specs.List.{range_with_len, ContainsAt as Has}
+use Rattle.std.specs.List.{range_with_len, ContainsAt}
 use Rattle.std.proofs.lemmas.List.FromFn.{length-range_with_len, get_or-range_with_len}
 use Rattle.boards.specs.Meaning.{Meaning, outlets_of}
 use Rattle.linkages.specs.Lists.{Mem, here, there, Distinct, Next, begins, goes_on}
@@ -13,10 +13,10 @@ mem_get_or [] k d h = absurd (not-suc-le-zero h)
 mem_get_or (x ∷ xs) zero d h = here refl
 mem_get_or (x ∷ xs) (suc k) d h = there (mem_get_or xs k d (omega arith))
 
-pub mem_from_has : (xs : List ℕ) (c : ℕ) → Has xs c → Mem c xs
+pub mem_from_has : (xs : List ℕ) (c : ℕ) → ContainsAt xs c → Mem c xs
 mem_from_has xs c h = mem_at (sym (h.2 0)) (mem_get_or xs h.0 0 h.1)
 
-pub has_from_mem : (xs : List ℕ) (c : ℕ) → Mem c xs → Has xs c
+pub has_from_mem : (xs : List ℕ) (c : ℕ) → Mem c xs → ContainsAt xs c
 has_from_mem [] c m = absurd (mem_none m)
 has_from_mem (x ∷ xs) c (here e) = (0, omega arith, λ d. sym e)
 has_from_mem (x ∷ xs) c (there m) = let h = has_from_mem xs c m in (suc h.0, omega (arith, h.1), h.2)
