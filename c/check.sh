@@ -4,9 +4,8 @@
 set -euo pipefail
 cd "$(dirname "$0")/.."
 
-(cd crates/jobs_c && rt check && rt lib)
-mkdir -p target/c target/staticlib
-cp crates/jobs_c/out/libjobs_c.a target/staticlib/libjobs.a
+c/build.sh
+mkdir -p target/c
 gcc -std=c11 -Wall -Wextra -Werror -O2 -o target/c/run_job c/run_job.c c/memory.c target/staticlib/libjobs.a
 
 count=0

@@ -24,6 +24,7 @@ struct rattle_memory {
 };
 
 struct rattle_memory rattle_alloc(size_t size, size_t alignment);
+struct rattle_memory rattle_realloc(void *at, size_t kept, size_t size, size_t alignment);
 void rattle_dealloc(void *at);
 
 static char nowhere;
@@ -38,6 +39,15 @@ struct rattle_memory rattle_alloc(size_t size, size_t alignment)
         return (struct rattle_memory){false, &nowhere};
     live++;
     return (struct rattle_memory){true, at};
+}
+
+struct rattle_memory rattle_realloc(void *at, size_t kept, size_t size, size_t alignment)
+{
+    (void)kept;
+    if (allocations++ == fail_at)
+        return (struct rattle_memory){false, &nowhere};
+    void *to = realloc(at, size > 0 ? size : alignment);
+    return (struct rattle_memory){to != NULL, to != NULL ? to : &nowhere};
 }
 
 void rattle_dealloc(void *at)

@@ -3,9 +3,8 @@
 set -euo pipefail
 cd "$(dirname "$0")/.."
 
-(cd crates/jobs_c && rt check && rt lib)
-mkdir -p target/c target/staticlib
-cp crates/jobs_c/out/libjobs_c.a target/staticlib/libjobs.a
+c/build.sh
+mkdir -p target/c
 gcc -std=c11 -D_DEFAULT_SOURCE -Wall -Wextra -Werror -g -O1 -fsanitize=address,undefined -fno-sanitize-recover=all \
     -o target/c/fuzz c/fuzz.c target/staticlib/libjobs.a
 cd target/c
