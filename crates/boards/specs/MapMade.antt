@@ -12,12 +12,12 @@ abbrev pub Taken : MapKind → (R C : ℕ) → List ℕ → Option Map → Type 
 Taken kind R C bytes (Some m) = NoneHolds (MapFault kind R C bytes) × (m.rows ≡ R) × (m.columns ≡ C) × (vec_items m.bytes ≡ bytes)
 Taken kind R C bytes None = (k : ℕ) × MapFault kind R C bytes k
 
--- what is told of the map that a board holds, or else of the one_cell board
+-- what is told of the map that a board holds, or else of the one-cell board
 abbrev pub over : {X : Type 0} → (told : (R C : ℕ) → List ℕ → X) → X → Option Map → X
 over told one (Some m) = told m.rows m.columns (vec_items m.bytes)
 over told one None = one
 
--- a board made from a map means what the map tells, with its places; where the map check refuses the map, it is the one_cell board
+-- a board made from a map means what the map tells, with its places; where the map check refuses the map, it is the one-cell board
 pub record Made (kind : MapKind) (R C : ℕ) (bytes : List ℕ) (told : Meaning) (places : List Place) (m : Meaning) (ps : List Place) : Type 0 where
   pub accepted : NoneHolds (MapFault kind R C bytes) → (m ≡ told) × (ps ≡ places)
   pub refused : (k : ℕ) → MapFault kind R C bytes k → (m ≡ one_cell) × (ps ≡ origin ∷ [])

@@ -1,4 +1,4 @@
-// A keep_out: any board with some of its cells closed.
+// A keep-out: any board with some of its cells closed.
 ghost use Rattle.std.specs.Prelude.{◌≡◌, ℕ, ◌<◌, false, length, replicate};
 ghost use Rattle.boards.specs.Meaning.{outlet_at};
 ghost use Rattle.boards.specs.Numbers.{number_of};
@@ -19,7 +19,7 @@ pub struct KeepOut<B> {
 }
 
 impl<B: Board> KeepOut<B> {
-    // A keep_out over a board, with nothing closed.
+    // A keep-out over a board, with nothing closed.
     pub fn new(board: B) -> KeepOut<B>
         ensures over { result.board ≡ board }
         ensures nothing { (c : ℕ) → is_closed result.mask c ≡ false }

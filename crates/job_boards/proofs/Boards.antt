@@ -31,6 +31,6 @@ kept_are_cells p s =
     ap (λ n. filter (λ x. ltb x n) p.kept) (cells_of_base p.kind p.rows p.columns p.map)
     ∙ all_kept (layers p.kind * (p.rows * p.columns)) p.kept s.cells
 
--- a keep_out is what it closes
+-- a keep-out is what it closes
 pub same_keep_out : (f g : ℕ → Bool) (m : Meaning) → ((c : ℕ) → f c ≡ g c) → keep_out f m ≡ keep_out g m
 same_keep_out f g m e = ap (λ closed. keep_out closed m) (fun_ext e)

@@ -96,7 +96,7 @@ abbrev pub base : MapKind → (R C : ℕ) → List ℕ → Meaning
 base FieldMap R C bytes = field R C bytes
 base EscapeMap R C bytes = escape R C bytes
 
--- with the keep_out over it
+-- with the keep-out over it
 abbrev pub board_meaning : Plan → Meaning
 board_meaning p = keep_out (among p.kept) (base p.kind p.rows p.columns p.map)
 
