@@ -1,8 +1,8 @@
 -- Bits of a mask: setting one, and counting them all.
-use Rattle.std.proofs.Common.{◌≡◌, ℕ, zero, suc, ◌+◌, ◌-◌, ◌*◌, ◌/◌, ◌%◌, ◌^◌, ◌<◌, Bool, false, cond, ◌||◌, eqb, List, [], ◌∷◌, length, get_or, set, replicate, sum_by, count_by, sym, refl, ap, ◌∙◌, ⊎_elim, add-zero, add_assoc, pow-suc, zero-add, div-one, arith, get_or-set_other, get_or-set_same}
+use Rattle.std.proofs.Common.{◌≡◌, ℕ, zero, suc, ◌+◌, ◌-◌, ◌*◌, ◌/◌, ◌%◌, ◌^◌, ◌<◌, ◌≤◌, Bool, false, cond, ◌||◌, eqb, List, [], ◌∷◌, length, get_or, set, replicate, sum_by, count_by, sym, refl, ap, ◌∙◌, ⊎_elim, add-zero, add_assoc, pow-suc, zero-add, div-one, arith, get_or-set_other, get_or-set_same}
 use native.Mathlib.Nat.{div-eq_of_lt, div_self, mul-mod_left, zero-div}
 use lib.Bits.{bit_or}
-use lib.Count.{ones, ones_step, ones-ones}
+use lib.Count.{ones, ones_step, ones-ones, ones-le}
 use lib.ListN.{get_or-replicate}
 use Rattle.std.specs.List.{range_with_len}
 use Rattle.std.proofs.lemmas.Nat.{pow_pos, pow-add, pow_below, shl-shr, shr-shr, or_shr, or_mod, div-add-mod', mod_below, div_below}
@@ -163,3 +163,8 @@ word_count (x ∷ ws) f =
 pub ones_closed : (mask : List ℕ) → length mask ≡ 64 → ((k : ℕ) → k < length mask → get_or mask k 0 < 2 ^ 64) → sum_by ones mask ≡ closed_count mask
 ones_closed mask l f =
     word_count mask f ∙ ap (count (is_closed mask) 0) (ap (λ n. 64 * n) l) ∙ sym (count_is (is_closed mask) 4096 0)
+
+-- and they are few
+pub few_ones : (mask : List ℕ) → ((k : ℕ) → k < length mask → get_or mask k 0 < 2 ^ 64) → sum_by ones mask ≤ 64 * length mask
+few_ones [] f = omega arith
+few_ones (x ∷ ws) f = omega (arith, sum_by-cons ones x ws, ones-le 64 x (f 0 (omega arith)), few_ones ws (λ k h. f (suc k) (omega arith)))

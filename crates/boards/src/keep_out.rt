@@ -55,28 +55,26 @@ impl<B: Board> KeepOut<B> {
     pub fn closed_cells(&self) -> u32
         ensures { result ≡ closed_count self.now.mask }
     {
-        let mut sum = 0;
-        for i in 0..64 {
-            sum += self.mask[i].count_ones();
-        }
-        sum
+        let words = self.mask.as_slice();
+        words.iter().map(|word| word.count_ones()).sum()
     }
 
     // Whether the cell is closed.
     fn is_closed(&self, cell: u16) -> bool
         ensures { result ≡ is_closed self.now.mask cell }
     {
-        cell < 4096 && (self.mask[(cell / 64) as usize] >> (cell % 64)) & 1 == 1
+        self.mask
+            .get((cell / 64) as usize)
+            .is_some_and(|word| (*word >> (cell % 64)) & 1 == 1)
     }
 
     // The i-th outlet below, if it is open.
     fn open_outlet(&self, cell: u16, i: u8) -> Option<u16>
         ensures { result ≡ if_open (is_closed self.now.mask) (outlet_at (B.meaning self.now.board) cell i) }
     {
-        match self.board.outlet(cell, i) {
-            Some(next) if !self.is_closed(next) => Some(next),
-            _ => None,
-        }
+        self.board
+            .outlet(cell, i)
+            .filter(|next| !self.is_closed(*next))
     }
 }
 
@@ -100,16 +98,9 @@ impl<B: Board> Board for KeepOut<B> {
         if self.is_closed(cell) {
             return None;
         }
-        let mut left = j;
-        for i in 0..8 {
-            if let Some(next) = self.open_outlet(cell, i) {
-                if left == 0 {
-                    return Some(next);
-                }
-                left -= 1;
-            }
-        }
-        None
+        (0..8)
+            .filter_map(|i| self.open_outlet(cell, i))
+            .nth(j as usize)
     }
 
     fn is_pad(&self, cell: u16) -> bool {
