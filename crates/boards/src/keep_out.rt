@@ -13,7 +13,8 @@ use crate::refusal::BoardRefusal;
 #[derive(Drop)]
 pub struct KeepOut<B> {
     board: B,
-    // A bit for each cell, 64 to a word: set where the cell is closed.
+    // A bit for each cell, 64 to a word: set where the cell is closed. That each is a cell of the board is no fact of the
+    // struct: such a fact would bind `B` in every type that holds a keep-out.
     mask: [u64; 64],
     ghost full: { length mask ≡ 64 },
 }
@@ -26,7 +27,7 @@ impl<B: Board> KeepOut<B> {
     {
         KeepOut {
             board,
-            mask: no_bits(),
+            mask: [0; 64],
         }
     }
 
@@ -76,13 +77,6 @@ impl<B: Board> KeepOut<B> {
             .outlet(cell, i)
             .filter(|next| !self.is_closed(*next))
     }
-}
-
-// A mask that closes nothing.
-fn no_bits() -> [u64; 64]
-    ensures { result ≡ replicate 64 0 }
-{
-    [0; 64]
 }
 
 impl<B: Board> Board for KeepOut<B> {
