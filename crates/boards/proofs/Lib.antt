@@ -1,2 +1,4 @@
+pub mod Held
 pub mod Masks
+pub mod Outlets
 pub mod SmallBoards

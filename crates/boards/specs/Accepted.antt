@@ -1,5 +1,6 @@
 -- What an accepted map promises, and the boards made from maps.
-use Rattle.std.specs.Prelude.{◌≡◌, ℕ, zero, suc, ◌*◌, ◌≤◌, Bool, false, List, [], ◌∷◌, length, Some, None, vec_items, Option, ◌≢◌, nat_lt, refl}
+use Rattle.std.specs.Prelude.{◌≡◌, ℕ, zero, suc, ◌*◌, ◌≤◌, Bool, false, List, [], ◌∷◌, length, Some, None, Ok, Err, vec_items, Option, Result, ◌≢◌, nat_lt, refl}
+use Rattle.std.specs.Result.{result_ok}
 use Rattle.std.proofs.Common.{subst, inl, inr, ⊎_elim, arith}
 use Rattle.std.proofs.lemmas.Nat.{mul-le}
 use Rattle.std.proofs.lemmas.Bool.{cases_lt, cases_eq, ltb-true}
@@ -9,10 +10,14 @@ use Rattle.boards.specs.declared.place.Place.{Place}
 use Rattle.boards.specs.declared.place.Step.{Step}
 use Rattle.boards.specs.Meaning.{Meaning, Bounded, NoWayIn, outlet_at}
 use Rattle.boards.specs.Places.{Placed, InRange, place_at}
-use Rattle.boards.specs.Refusals.{NoneHolds}
-use Rattle.boards.specs.Grids.{grid_places}
-use Rattle.boards.specs.Maps.{MapFault, SidesAllowed, map_board, one_cell, origin}
-use Rattle.boards.specs.MapMade.{Taken, Made, over}
+use Rattle.boards.specs.declared.refusal.BoardRefusal.{BoardRefusal}
+use Rattle.boards.specs.Numbers.{number_of}
+use Rattle.boards.specs.Refusals.{NoneHolds, Answer}
+use Rattle.boards.specs.Grids.{Few}
+use Rattle.boards.specs.Maps.{MapFault, SidesAllowed, one_cell, origin}
+use Rattle.boards.specs.MapMade.{Made, over, map_meaning, map_places}
+use Rattle.boards.specs.Fields.{field_steps}
+use Rattle.boards.specs.Escapes.{escape_steps}
 use Rattle.boards.specs.Lists.{when_some}
 use Rattle.boards.specs.Meanings.{bounded_of, made_outlet}
 use Rattle.boards.specs.MapBoards.{map_bounded, map_no_way_in, map_placed}
@@ -38,16 +43,16 @@ module _ (kind : MapKind) (R C : ℕ) (bytes : List ℕ) (good : NoneHolds (MapF
   pub accepted_length : length bytes ≡ R * C
   accepted_length = not_not_eq (length bytes) (R * C) (λ n. good 14 (inr (inl (refl, n))))
 
--- a board that holds the map that was taken
+-- the board that holds what the map check lets through
 module _ (kind : MapKind) (R C : ℕ) (bytes : List ℕ) (told : (R C : ℕ) → List ℕ → Meaning) (places : (R C : ℕ) → List ℕ → List Place) where
-  pub made_from : (o : Option Map) → Taken kind R C bytes o →
-      Made kind R C bytes (told R C bytes) (places R C bytes) (over told one_cell o) (over places (origin ∷ []) o)
-  made_from (Some m) t =
-      let r = t.1 in
-      let c = t.2 in
-      let b = t.3 in
+  pub made_from : (r : Result Map BoardRefusal) → Answer number_of (MapFault kind R C bytes) (λ m. (m.rows ≡ R) × (m.columns ≡ C) × (vec_items m.bytes ≡ bytes)) r →
+      Made kind R C bytes (told R C bytes) (places R C bytes) (over told one_cell (result_ok r)) (over places (origin ∷ []) (result_ok r))
+  made_from (Ok m) t =
+      let r = t.1.0 in
+      let c = t.1.1 in
+      let b = t.1.2 in
       record { accepted = λ _. (cc, cc); refused = λ k f. absurd (t.0 k f) }
-  made_from None t = record { accepted = λ g. absurd (g t.0 t.1); refused = λ k f. (refl, refl) }
+  made_from (Err e) t = record { accepted = λ g. absurd (g (number_of e) t.0); refused = λ k f. (refl, refl) }
 
 pub one_bounded : Bounded one_cell
 one_bounded = bounded_of 1 (λ c. []) (λ c. false) (λ c. false) (omega arith) (omega arith) (λ c _. omega arith) (λ c _ j h. let z : ⊥ = omega arith in absurd z)
@@ -72,29 +77,32 @@ one_placed = record {
   one_step = λ c j d p q e f g. no_outlet c j d e;
 }
 
--- a board of one or two layers over the map that it holds
-module _ (L : ℕ) (steps : List Step) (landing : (R C : ℕ) → List ℕ → Place → Bool)
-    (some_layer : 1 ≤ L) (few_layers : L ≤ 2) (few_steps : length steps ≤ 8) where
-  abbrev told : (R C : ℕ) → List ℕ → Meaning
-  told R C bytes = map_board L R C bytes steps (landing R C bytes)
+-- a board over the map that it holds
+module _ (L : ℕ) (steps : List Step) (landing : (R C : ℕ) → List ℕ → Place → Bool) (few : Few L steps) where
+  pub few_cells : (R C : ℕ) → SidesAllowed R C → L * (R * C) ≤ 4096
+  few_cells R C s = omega (arith, mul-le L (R * C) 2 2048 few.few_layers s.4)
 
-  few_cells : (R C : ℕ) → SidesAllowed R C → L * (R * C) ≤ 4096
-  few_cells R C s = omega (arith, mul-le L (R * C) 2 2048 few_layers s.4)
-
-  pub held_bounded : (o : Option Map) → Bounded (over told one_cell o)
+  pub held_bounded : (o : Option Map) → Bounded (map_meaning L steps landing o)
   held_bounded (Some m) =
       let l = landing m.rows m.columns (vec_items m.bytes) in
-      map_bounded L m.rows m.columns _ steps l some_layer (omega arith) (few_cells _ _ m.sides) m.sides few_steps
+      map_bounded L m.rows m.columns _ steps l few.some_layer (omega (arith, few.few_layers)) (few_cells _ _ m.sides) m.sides few.few_steps
   held_bounded None = one_bounded
 
-  pub held_no_way_in : (o : Option Map) → NoWayIn (over told one_cell o)
+  pub held_no_way_in : (o : Option Map) → NoWayIn (map_meaning L steps landing o)
   held_no_way_in (Some m) =
       let l = landing m.rows m.columns (vec_items m.bytes) in
-      map_no_way_in L m.rows m.columns (vec_items m.bytes) steps l some_layer (omega arith) (few_cells _ _ m.sides) m.sides few_steps
+      map_no_way_in L m.rows m.columns (vec_items m.bytes) steps l few.some_layer (omega (arith, few.few_layers)) (few_cells _ _ m.sides) m.sides few.few_steps
   held_no_way_in None = one_no_way_in
 
-  pub held_placed : (o : Option Map) → Placed (over told one_cell o) (over (λ R C bytes. grid_places L R C) (origin ∷ []) o)
+  pub held_placed : (o : Option Map) → Placed (map_meaning L steps landing o) (map_places L o)
   held_placed (Some m) =
       let l = landing m.rows m.columns (vec_items m.bytes) in
-      map_placed L m.rows m.columns _ steps l some_layer (omega arith) (few_cells _ _ m.sides) m.sides few_steps
+      map_placed L m.rows m.columns _ steps l few.some_layer (omega (arith, few.few_layers)) (few_cells _ _ m.sides) m.sides few.few_steps
   held_placed None = one_placed
+
+-- fields and escape boards
+pub field_few : Few 2 field_steps
+field_few = record { some_layer = omega arith; few_layers = omega arith; few_steps = omega arith }
+
+pub escape_few : Few 1 escape_steps
+escape_few = record { some_layer = omega arith; few_layers = omega arith; few_steps = omega arith }

@@ -1,7 +1,7 @@
 -- Grids of points: rows and columns count from 0, layers from 1 at the top.
 -- Cells are numbered row after row, and layer after layer: with R rows and C columns, the cell at layer l, row r and column c
 -- is (l - 1) * R * C + r * C + c.
-use Rattle.std.specs.Prelude.{ℕ, ◌+◌, ◌-◌, ◌*◌, ◌/◌, ◌%◌, ◌<◌, ◌≤◌, List, map, Option, nat_lt}
+use Rattle.std.specs.Prelude.{ℕ, ◌+◌, ◌-◌, ◌*◌, ◌/◌, ◌%◌, ◌<◌, ◌≤◌, List, map, length, Option, nat_lt}
 use Rattle.std.specs.List.{range_with_len}
 use Rattle.boards.specs.declared.place.Place.{Place}
 use Rattle.boards.specs.declared.place.Step.{Step}
@@ -33,3 +33,9 @@ beside L R C p South = when (nat_lt (p.row + 1) R) (record { layer = p.layer; ro
 beside L R C p West = when (nat_lt 0 p.column) (record { layer = p.layer; row = p.row; column = p.column - 1 })
 beside L R C p Down = when (nat_lt p.layer L) (record { layer = p.layer + 1; row = p.row; column = p.column })
 beside L R C p Up = when (nat_lt 1 p.layer) (record { layer = p.layer - 1; row = p.row; column = p.column })
+
+-- one or two layers, and at most eight steps: few enough for any map
+pub record Few (L : ℕ) (steps : List Step) : Type 0 where
+  pub some_layer : 1 ≤ L
+  pub few_layers : L ≤ 2
+  pub few_steps : length steps ≤ 8

@@ -15,13 +15,9 @@ pub enum Mark {
 pub fn count_marked<B: Board>(board: &B, mark: Mark) -> u16
     ensures { result ≡ mark_count (B.meaning board.now) mark }
 {
-    let mut count = 0;
-    for cell in 0..board.cells() {
-        if is_marked(board, cell, mark) {
-            count += 1;
-        }
-    }
-    count
+    (0..board.cells())
+        .filter(|cell| is_marked(board, *cell, mark))
+        .count() as u16
 }
 
 fn is_marked<B: Board>(board: &B, cell: u16, mark: Mark) -> bool

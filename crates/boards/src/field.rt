@@ -1,19 +1,16 @@
 // The two-layer field: pads on the top layer, landings on the bottom one, and vias at pad points and landing points.
-ghost use Rattle.std.specs.Prelude.{◌≡◌, ◌<◌};
 ghost use Rattle.boards.specs.declared.maps.MapKind.TheVariants.{FieldMap};
-ghost use Rattle.boards.specs.Meaning.{NoWayIn, landing_at};
+ghost use Rattle.boards.specs.Meaning.{NoWayIn};
 ghost use Rattle.boards.specs.Grids.{grid_places};
 ghost use Rattle.boards.specs.MapMade.{Made};
 ghost use Rattle.boards.specs.Fields.{field, field_landing, field_meaning, field_places, field_steps};
-ghost use Rattle.std.proofs.Common.{arith};
-ghost use Rattle.boards.specs.Accepted.{held_bounded, held_placed};
+ghost use Rattle.boards.specs.Accepted.{field_few};
 
-use crate::board::Board;
-use crate::grid::{accepted, is_landing_point};
+use crate::grid::{Grid, Spot};
 use crate::map::Map;
+use crate::map_board::MapBoard;
 use crate::maps::MapKind;
-use crate::one_cell::{one_cell_at, one_place};
-use crate::place::{Place, PlacedBoard, Step};
+use crate::place::Step;
 
 #[derive(Drop)]
 pub struct Field {
@@ -28,85 +25,35 @@ impl Field {
         ensures no_way_in { NoWayIn (field_meaning result.map) }
     {
         Field {
-            map: accepted(MapKind::FieldMap, rows, columns, bytes),
+            map: Map::checked(MapKind::FieldMap, rows, columns, bytes).ok(),
         }
     }
 }
 
-impl Board for Field {
-    ghost meaning = { λ s. field_meaning s.map };
+impl Grid for Field {
+    ghost LAYERS = { 2 };
 
-    ghost bounded = { λ b. held_bounded 2 field_steps (λ R C bytes. field_landing C bytes) (omega arith) (omega arith) (omega arith) b.map };
+    ghost steps = { field_steps };
 
-    fn cells(&self) -> u16 {
-        match &self.map {
-            Some(map) => map.cells(2),
-            None => 1,
-        }
+    const LAYERS: u16 = 2;
+
+    fn steps() -> &'static [Step] {
+        &[Step::North, Step::East, Step::South, Step::West, Step::Down]
     }
 
-    fn outlet(&self, cell: u16, j: u8) -> Option<u16> {
-        match &self.map {
-            Some(map) => map.outlet(
-                2,
-                &[Step::North, Step::East, Step::South, Step::West, Step::Down],
-                cell,
-                j,
-            ),
-            None => None,
-        }
-    }
-
-    fn is_pad(&self, cell: u16) -> bool {
-        match &self.map {
-            Some(map) => map.is_pad(2, cell),
-            None => false,
-        }
-    }
-
-    fn is_landing(&self, cell: u16) -> bool {
-        match &self.map {
-            Some(map) => is_landing_cell(map, cell),
-            None => false,
-        }
-    }
+    ghost few = { field_few };
 }
 
-// Whether the number is a cell of the map's field that is a landing.
-fn is_landing_cell(map: &Map, cell: u16) -> bool
-    ensures { result ≡ landing_at (field map.now.rows map.now.columns map.now.bytes.items) cell }
-{
-    match map.place(2, cell) {
-        Some(place) => has_landing(map, place),
-        None => false,
-    }
-}
+impl MapBoard for Field {
+    ghost held = { λ b. b.map };
 
-// Whether a landing of the map's field lies at the place.
-fn has_landing(map: &Map, place: Place) -> bool
-    requires row { place.row < map.now.rows }
-    requires column { place.column < map.now.columns }
-    ensures { result ≡ field_landing map.now.columns map.now.bytes.items place }
-{
-    place.layer == 2 && is_landing_point(map.byte_at(place))
-}
+    ghost landing = { λ R C bytes. field_landing C bytes };
 
-impl PlacedBoard for Field {
-    ghost places = { λ s. field_places s.map };
-
-    ghost placed = { λ b. held_placed 2 field_steps (λ R C bytes. field_landing C bytes) (omega arith) (omega arith) (omega arith) b.map };
-
-    fn place(&self, cell: u16) -> Option<Place> {
-        match &self.map {
-            Some(map) => map.place(2, cell),
-            None => one_place(cell),
-        }
+    fn map(&self) -> Option<&Map> {
+        self.map.as_ref()
     }
 
-    fn cell_at(&self, place: Place) -> Option<u16> {
-        match &self.map {
-            Some(map) => map.cell_at(2, place),
-            None => one_cell_at(place),
-        }
+    fn has_landing(spot: &Spot<'_, Field>) -> bool {
+        spot.place.layer == 2 && spot.point().landing
     }
 }

@@ -1,249 +1,187 @@
-// Reading an accepted map: where its cells lie, what stands beside them, and which ways are open.
-ghost use Rattle.std.specs.Prelude.{◌≡◌, ℕ, ◌*◌, ◌<◌, ◌≤◌, false, [], map, Some, Decides};
-ghost use Rattle.boards.specs.Meaning.{at, outlet_at, pad_at};
-ghost use Rattle.boards.specs.Places.{place_at, Finds};
-ghost use Rattle.boards.specs.Grids.{place_of, cell_of, OnGrid, beside, grid_places};
-ghost use Rattle.boards.specs.MapMade.{Taken};
-ghost use Rattle.boards.specs.Maps.{byte_at, pad_place, passes, way, way_to, pad_point, landing_point, somes, map_board};
+// The grid of a board over a map: the places of its cells, what stands there, and which ways lead from them.
+ghost use Rattle.std.specs.Prelude.{◌≡◌, ℕ, ◌*◌, ◌<◌, List, map, Some, None, MatchOption};
+ghost use Rattle.boards.specs.declared.place.Step.{Step};
+ghost use Rattle.boards.specs.Meaning.{at};
+ghost use Rattle.boards.specs.Places.{place_at};
+ghost use Rattle.boards.specs.Grids.{cell_of, OnGrid, beside, grid_places, Few};
+ghost use Rattle.boards.specs.Maps.{byte_at, pad_place, passes, way, pad_point, landing_point, somes};
 
 use crate::map::Map;
-use crate::maps::{MapKind, check_map};
 use crate::place::{Place, Step};
+use std::marker::PhantomData;
 
-// The map, if the map check accepts it.
-pub(crate) fn accepted(kind: MapKind, rows: u16, columns: u16, bytes: Vec<u8>) -> Option<Map>
-    ensures { Taken kind rows columns bytes.items result }
-{
-    match check_map(kind, rows, columns, bytes.as_slice()) {
-        Ok(()) => Some(Map {
-            rows,
-            columns,
-            bytes,
-        }),
-        Err(_) => None,
-    }
+// What the grids of boards over maps differ in.
+pub(crate) trait Grid: Drop {
+    ghost LAYERS: { ℕ };
+
+    ghost steps: { List Step };
+
+    const LAYERS: u16;
+
+    // The steps that may lead from a cell, in the order of its outlets.
+    fn steps() -> &'static [Step]
+        ensures { result.now ≡ steps };
+
+    ghost few: { Few LAYERS steps };
 }
 
-impl Map {
-    fn points(&self) -> u16
-        ensures value { result ≡ self.now.rows * self.now.columns }
-        ensures bound { (1 ≤ result) × (result ≤ 2048) }
+// A place on the grid.
+#[derive(Drop)]
+pub(crate) struct Spot<'a, G: Grid> {
+    pub(crate) map: &'a Map,
+    pub(crate) place: Place,
+    grid: PhantomData<G>,
+    ghost on_grid: { OnGrid G.LAYERS map.now.rows map.now.columns place },
+}
+
+// What a byte of a map says of its point.
+#[derive(Clone, Copy)]
+pub(crate) struct Point {
+    pub(crate) pad: bool,
+    pub(crate) landing: bool,
+}
+
+impl<'a, G: Grid> Spot<'a, G> {
+    // How many cells the grid has.
+    pub(crate) fn cells(map: &Map) -> u16
+        ensures { result ≡ G.LAYERS * (map.now.rows * map.now.columns) }
     {
-        self.rows * self.columns
+        G::LAYERS * map.points()
     }
 
-    // The number of cells of so many layers.
-    pub(crate) fn cells(&self, layers: u16) -> u16
-        requires fits { layers * (self.now.rows * self.now.columns) ≤ 4096 }
-        ensures { result ≡ layers * (self.now.rows * self.now.columns) }
+    // Where the cell of a number lies; none for a number that is no cell.
+    pub(crate) fn of_cell(map: &'a Map, cell: u16) -> Option<Spot<'a, G>>
+        ensures { MatchOption result (place_at (grid_places G.LAYERS map.now.rows map.now.columns) cell ≡ None) (λ s. (s.map.now ≡ map.now) × (place_at (grid_places G.LAYERS map.now.rows map.now.columns) cell ≡ Some s.place)) }
     {
-        layers * self.points()
+        if cell >= Spot::<G>::cells(map) {
+            return None;
+        }
+        let points = map.points();
+        Some(Spot {
+            map,
+            place: Place {
+                layer: cell / points + 1,
+                row: cell % points / map.columns,
+                column: cell % points % map.columns,
+            },
+            grid: PhantomData,
+        })
     }
 
-    // Where the cell of a number lies.
-    fn place_of(&self, cell: u16) -> Place
-        requires { cell < 4096 }
-        ensures { result ≡ place_of self.now.rows self.now.columns cell }
+    // The place, if it is on the grid.
+    pub(crate) fn at(map: &'a Map, place: Place) -> Option<Spot<'a, G>>
+        ensures { MatchOption result (OnGrid G.LAYERS map.now.rows map.now.columns place → ⊥) (λ s. (s.place ≡ place) × (s.map.now ≡ map.now)) }
     {
-        let points = self.points();
-        Place {
-            layer: cell / points + 1,
-            row: cell % points / self.columns,
-            column: cell % points % self.columns,
+        if (1..=G::LAYERS).contains(&place.layer)
+            && place.row < map.rows
+            && place.column < map.columns
+        {
+            Some(Spot {
+                map,
+                place,
+                grid: PhantomData,
+            })
+        } else {
+            None
         }
     }
 
-    // The number of the cell at a place.
-    fn cell_of(&self, place: Place) -> u16
-        requires from_one { 1 ≤ place.layer }
-        requires fits { cell_of self.now.rows self.now.columns place < 4096 }
-        ensures { result ≡ cell_of self.now.rows self.now.columns place }
+    // The number of the cell that lies there.
+    pub(crate) fn cell(&self) -> u16
+        ensures { result ≡ cell_of self.now.map.now.rows self.now.map.now.columns self.now.place }
     {
-        (place.layer - 1) * self.points() + (place.row * self.columns + place.column)
+        let Place { layer, row, column } = self.place;
+        (layer - 1) * self.map.points() + (row * self.map.columns + column)
     }
 
-    // The byte of the point at a place.
-    pub(crate) fn byte_at(&self, place: Place) -> u8
-        requires row { place.row < self.now.rows }
-        requires column { place.column < self.now.columns }
-        ensures { result ≡ byte_at self.now.columns self.now.bytes.items place }
+    pub(crate) fn point(&self) -> Point
+        ensures pad { result.pad ≡ pad_point (byte_at self.now.map.now.columns self.now.map.now.bytes.items self.now.place) }
+        ensures landing { result.landing ≡ landing_point (byte_at self.now.map.now.columns self.now.map.now.bytes.items self.now.place) }
     {
-        self.bytes[(place.row * self.columns + place.column) as usize]
+        let Place { row, column, .. } = self.place;
+        let byte = self.map.bytes[(row * self.map.columns + column) as usize];
+        Point {
+            pad: byte % 2 == 1,
+            landing: byte / 2 % 2 == 1,
+        }
     }
 
-    // The place one step away, if one of the `layers` layers has it.
-    fn beside(&self, layers: u16, from: Place, step: Step) -> Option<Place>
-        requires row { from.row < self.now.rows }
-        requires column { from.column < self.now.columns }
-        ensures { result ≡ beside layers self.now.rows self.now.columns from step }
+    pub(crate) fn has_pad(&self) -> bool
+        ensures { result ≡ pad_place self.now.map.now.columns self.now.map.now.bytes.items self.now.place }
     {
+        self.place.layer == 1 && self.point().pad
+    }
+
+    // The place one step away, if the grid has it.
+    fn beside(&self, step: Step) -> Option<Place>
+        ensures { result ≡ beside G.LAYERS self.now.map.now.rows self.now.map.now.columns self.now.place step }
+    {
+        let from = self.place;
         let Place { layer, row, column } = from;
         match step {
             Step::North if row > 0 => Some(Place {
-                layer,
                 row: row - 1,
-                column,
+                ..from
             }),
-            Step::East if column + 1 < self.columns => Some(Place {
-                layer,
-                row,
+            Step::East if column + 1 < self.map.columns => Some(Place {
                 column: column + 1,
+                ..from
             }),
-            Step::South if row + 1 < self.rows => Some(Place {
-                layer,
+            Step::South if row + 1 < self.map.rows => Some(Place {
                 row: row + 1,
-                column,
+                ..from
             }),
             Step::West if column > 0 => Some(Place {
-                layer,
-                row,
                 column: column - 1,
+                ..from
             }),
-            Step::Down if layer < layers => Some(Place {
+            Step::Down if layer < G::LAYERS => Some(Place {
                 layer: layer + 1,
-                row,
-                column,
+                ..from
             }),
             Step::Up if layer > 1 => Some(Place {
                 layer: layer - 1,
-                row,
-                column,
+                ..from
             }),
             _ => None,
         }
     }
 
-    // Whether a pad stands at the place.
-    pub(crate) fn has_pad(&self, place: Place) -> bool
-        requires row { place.row < self.now.rows }
-        requires column { place.column < self.now.columns }
-        ensures { result ≡ pad_place self.now.columns self.now.bytes.items place }
+    // Whether a step may be taken from there: layers change only at pad points and landing points.
+    fn passes(&self, step: Step) -> bool
+        ensures { result ≡ passes step (byte_at self.now.map.now.columns self.now.map.now.bytes.items self.now.place) }
     {
-        place.layer == 1 && is_pad_point(self.byte_at(place))
-    }
-
-    // The cell that a step leads to, if the way is open.
-    fn way(&self, layers: u16, from: Place, step: Step) -> Option<u16>
-        requires fits { layers * (self.now.rows * self.now.columns) ≤ 4096 }
-        requires on_grid { OnGrid layers self.now.rows self.now.columns from }
-        ensures { result ≡ way layers self.now.rows self.now.columns self.now.bytes.items from step }
-    {
-        match self.beside(layers, from, step) {
-            Some(to) => self.way_to(from, step, to),
-            None => None,
+        let point = self.point();
+        match step {
+            Step::Down | Step::Up => point.pad || point.landing,
+            _ => true,
         }
     }
 
-    // The cell at a place beside, if the step may be taken and no pad stands there.
-    fn way_to(&self, from: Place, step: Step, to: Place) -> Option<u16>
-        requires from_row { from.row < self.now.rows }
-        requires from_column { from.column < self.now.columns }
-        requires to_row { to.row < self.now.rows }
-        requires to_column { to.column < self.now.columns }
-        requires to_layer { 1 ≤ to.layer }
-        requires fits { cell_of self.now.rows self.now.columns to < 4096 }
-        ensures { result ≡ way_to self.now.rows self.now.columns self.now.bytes.items from step (Some to) }
+    // The cell that a step leads to, if the way is open: the step passes, and no pad stands there.
+    fn way(&self, step: Step) -> Option<u16>
+        ensures { result ≡ way G.LAYERS self.now.map.now.rows self.now.map.now.columns self.now.map.now.bytes.items self.now.place step }
     {
-        if passes(step, self.byte_at(from)) && !self.has_pad(to) {
-            Some(self.cell_of(to))
+        let place = self.beside(step)?;
+        let to: Spot<'_, G> = Spot {
+            map: self.map,
+            place,
+            grid: PhantomData,
+        };
+        if self.passes(step) && !to.has_pad() {
+            Some(to.cell())
         } else {
             None
         }
     }
 
-    // The j-th of the open ways from a cell of `layers` layers, in the order of the steps.
-    pub(crate) fn outlet(&self, layers: u16, steps: &[Step], cell: u16, j: u8) -> Option<u16>
-        requires fits { layers * (self.now.rows * self.now.columns) ≤ 4096 }
-        ensures { result ≡ outlet_at (map_board layers self.now.rows self.now.columns self.now.bytes.items steps.now (λ _. false)) cell j }
+    // The j-th of the open ways, in the order of the board's steps.
+    pub(crate) fn outlet(&self, j: u8) -> Option<u16>
+        ensures { result ≡ at (somes (map (way G.LAYERS self.now.map.now.rows self.now.map.now.columns self.now.map.now.bytes.items self.now.place) G.steps)) j }
     {
-        if cell < self.cells(layers) {
-            self.nth_way(layers, steps, self.place_of(cell), j)
-        } else {
-            None
-        }
-    }
-
-    // The j-th of the open ways from a place.
-    fn nth_way(&self, layers: u16, steps: &[Step], from: Place, j: u8) -> Option<u16>
-        requires fits { layers * (self.now.rows * self.now.columns) ≤ 4096 }
-        requires on_grid { OnGrid layers self.now.rows self.now.columns from }
-        ensures { result ≡ at (somes (map (way layers self.now.rows self.now.columns self.now.bytes.items from) steps.now)) j }
-    {
-        let mut left = j;
-        for step in steps {
-            if let Some(next) = self.way(layers, from, *step) {
-                if left == 0 {
-                    return Some(next);
-                }
-                left -= 1;
-            }
-        }
-        None
-    }
-
-    // Whether the number is a cell of `layers` layers where a pad stands.
-    pub(crate) fn is_pad(&self, layers: u16, cell: u16) -> bool
-        requires fits { layers * (self.now.rows * self.now.columns) ≤ 4096 }
-        ensures { result ≡ pad_at (map_board layers self.now.rows self.now.columns self.now.bytes.items [] (λ _. false)) cell }
-    {
-        cell < self.cells(layers) && self.has_pad(self.place_of(cell))
-    }
-
-    // Where the cell of a number lies, if it is one of `layers` layers.
-    pub(crate) fn place(&self, layers: u16, cell: u16) -> Option<Place>
-        requires fits { layers * (self.now.rows * self.now.columns) ≤ 4096 }
-        ensures { result ≡ place_at (grid_places layers self.now.rows self.now.columns) cell }
-    {
-        if cell < self.cells(layers) {
-            Some(self.place_of(cell))
-        } else {
-            None
-        }
-    }
-
-    // The cell of `layers` layers that lies at the place.
-    pub(crate) fn cell_at(&self, layers: u16, place: Place) -> Option<u16>
-        requires fits { layers * (self.now.rows * self.now.columns) ≤ 4096 }
-        ensures { Finds (grid_places layers self.now.rows self.now.columns) place result }
-    {
-        if self.has(layers, place) {
-            Some(self.cell_of(place))
-        } else {
-            None
-        }
-    }
-
-    // Whether the place is one of `layers` layers.
-    fn has(&self, layers: u16, place: Place) -> bool
-        ensures { Decides result (OnGrid layers self.now.rows self.now.columns place) }
-    {
-        1 <= place.layer
-            && place.layer <= layers
-            && place.row < self.rows
-            && place.column < self.columns
-    }
-}
-
-// Whether the byte says that its point is a pad point.
-fn is_pad_point(byte: u8) -> bool
-    ensures { result ≡ pad_point byte }
-{
-    byte % 2 == 1
-}
-
-// Whether the byte says that its point is a landing point.
-pub(crate) fn is_landing_point(byte: u8) -> bool
-    ensures { result ≡ landing_point byte }
-{
-    byte / 2 % 2 == 1
-}
-
-// Whether a step may be taken from a point of this byte: layers change only at pad points and landing points.
-fn passes(step: Step, byte: u8) -> bool
-    ensures { result ≡ passes step byte }
-{
-    match step {
-        Step::Down | Step::Up => is_pad_point(byte) || is_landing_point(byte),
-        _ => true,
+        G::steps()
+            .iter()
+            .filter_map(|step| self.way(*step))
+            .nth(j as usize)
     }
 }

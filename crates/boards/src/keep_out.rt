@@ -13,7 +13,8 @@ use crate::refusal::BoardRefusal;
 #[derive(Drop)]
 pub struct KeepOut<B> {
     board: B,
-    // A bit for each cell, 64 to a word: set where the cell is closed.
+    // A bit for each cell, 64 to a word: set where the cell is closed. That each is a cell of the board is no fact of the
+    // struct: such a fact would bind `B` in every type that holds a keep-out.
     mask: [u64; 64],
     ghost full: { length mask ≡ 64 },
 }
@@ -26,7 +27,7 @@ impl<B: Board> KeepOut<B> {
     {
         KeepOut {
             board,
-            mask: no_bits(),
+            mask: [0; 64],
         }
     }
 
@@ -55,36 +56,27 @@ impl<B: Board> KeepOut<B> {
     pub fn closed_cells(&self) -> u32
         ensures { result ≡ closed_count self.now.mask }
     {
-        let mut sum = 0;
-        for i in 0..64 {
-            sum += self.mask[i].count_ones();
-        }
-        sum
+        let words = self.mask.as_slice();
+        words.iter().map(|word| word.count_ones()).sum()
     }
 
     // Whether the cell is closed.
     fn is_closed(&self, cell: u16) -> bool
         ensures { result ≡ is_closed self.now.mask cell }
     {
-        cell < 4096 && (self.mask[(cell / 64) as usize] >> (cell % 64)) & 1 == 1
+        self.mask
+            .get((cell / 64) as usize)
+            .is_some_and(|word| (*word >> (cell % 64)) & 1 == 1)
     }
 
     // The i-th outlet below, if it is open.
     fn open_outlet(&self, cell: u16, i: u8) -> Option<u16>
         ensures { result ≡ if_open (is_closed self.now.mask) (outlet_at (B.meaning self.now.board) cell i) }
     {
-        match self.board.outlet(cell, i) {
-            Some(next) if !self.is_closed(next) => Some(next),
-            _ => None,
-        }
+        self.board
+            .outlet(cell, i)
+            .filter(|next| !self.is_closed(*next))
     }
-}
-
-// A mask that closes nothing.
-fn no_bits() -> [u64; 64]
-    ensures { result ≡ replicate 64 0 }
-{
-    [0; 64]
 }
 
 impl<B: Board> Board for KeepOut<B> {
@@ -100,16 +92,9 @@ impl<B: Board> Board for KeepOut<B> {
         if self.is_closed(cell) {
             return None;
         }
-        let mut left = j;
-        for i in 0..8 {
-            if let Some(next) = self.open_outlet(cell, i) {
-                if left == 0 {
-                    return Some(next);
-                }
-                left -= 1;
-            }
-        }
-        None
+        (0..8)
+            .filter_map(|i| self.open_outlet(cell, i))
+            .nth(j as usize)
     }
 
     fn is_pad(&self, cell: u16) -> bool {

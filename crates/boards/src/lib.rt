@@ -11,6 +11,7 @@ pub mod field;
 mod grid;
 pub mod keep_out;
 mod map;
+mod map_board;
 pub mod maps;
 mod one_cell;
 pub mod place;

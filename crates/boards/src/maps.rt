@@ -24,7 +24,7 @@ pub fn check_map(kind: MapKind, rows: u16, columns: u16, bytes: &[u8]) -> Result
     if bytes.len() != rows as usize * columns as usize {
         return Err(BoardRefusal::Length);
     }
-    if has_above(bytes, last_named(kind)) {
+    if bytes.iter().any(|byte| *byte > last_named(kind)) {
         return Err(BoardRefusal::Byte);
     }
     Ok(())
@@ -33,7 +33,7 @@ pub fn check_map(kind: MapKind, rows: u16, columns: u16, bytes: &[u8]) -> Result
 fn sides_allowed(rows: u16, columns: u16) -> bool
     ensures { Decides result (SidesAllowed rows columns) }
 {
-    1 <= rows && rows <= 64 && 1 <= columns && columns <= 64 && rows * columns <= 2048
+    (1..=64).contains(&rows) && (1..=64).contains(&columns) && rows * columns <= 2048
 }
 
 // The highest byte that has a meaning on such a map.
@@ -44,16 +44,4 @@ fn last_named(kind: MapKind) -> u8
         MapKind::FieldMap => 3,
         MapKind::EscapeMap => 1,
     }
-}
-
-// Whether some byte is above `most`.
-fn has_above(bytes: &[u8], most: u8) -> bool
-    ensures { Decides result ((i : ℕ) × (i < length bytes.now) × (most < slice_index bytes.now i)) }
-{
-    for byte in bytes {
-        if *byte > most {
-            return true;
-        }
-    }
-    false
 }

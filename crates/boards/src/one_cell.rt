@@ -5,26 +5,20 @@ ghost use Rattle.boards.specs.Maps.{origin};
 
 use crate::place::Place;
 
+const ONLY: Place = Place {
+    layer: 1,
+    row: 0,
+    column: 0,
+};
+
 pub(crate) fn one_place(cell: u16) -> Option<Place>
     ensures { result ≡ place_at (origin ∷ []) cell }
 {
-    if cell == 0 {
-        Some(Place {
-            layer: 1,
-            row: 0,
-            column: 0,
-        })
-    } else {
-        None
-    }
+    (cell == 0).then_some(ONLY)
 }
 
 pub(crate) fn one_cell_at(place: Place) -> Option<u16>
     ensures { Finds (origin ∷ []) place result }
 {
-    if place.layer == 1 && place.row == 0 && place.column == 0 {
-        Some(0)
-    } else {
-        None
-    }
+    (place == ONLY).then_some(0)
 }

@@ -1,17 +1,20 @@
-// Why a map or a cell to be closed is refused.
+// Why a map or a cell to be closed is refused. Users know each refusal by its number.
 ghost use Rattle.std.specs.Prelude.{◌≡◌};
 ghost use Rattle.boards.specs.Numbers.{number_of};
+
+use std::error::Error;
+use std::fmt;
 
 #[derive(Clone, Copy, PartialEq, Eq, Debug)]
 pub enum BoardRefusal {
     // The rows or columns are not allowed.
-    Sides,
+    Sides = 13,
     // The map has not one byte for each point.
-    Length,
+    Length = 14,
     // The map has a byte that is not named for its kind of board.
-    Byte,
+    Byte = 15,
     // A cell or a point is off the board.
-    OffBoard,
+    OffBoard = 16,
 }
 
 impl BoardRefusal {
@@ -19,11 +22,20 @@ impl BoardRefusal {
     pub fn number(self) -> u8
         ensures { result ≡ number_of self }
     {
-        match self {
-            BoardRefusal::Sides => 13,
-            BoardRefusal::Length => 14,
-            BoardRefusal::Byte => 15,
-            BoardRefusal::OffBoard => 16,
-        }
+        self as u8
     }
 }
+
+impl fmt::Display for BoardRefusal {
+    fn fmt<W: fmt::Write>(&self, f: &mut fmt::Formatter<W>) -> fmt::Result {
+        f.write_str(match self {
+            BoardRefusal::Sides =>
+                "rows and columns are 1 to 64 each, and at most 2048 points together",
+            BoardRefusal::Length => "the map has not one byte for each point",
+            BoardRefusal::Byte => "the map has a byte that means nothing on such a board",
+            BoardRefusal::OffBoard => "a point or a cell is off the board",
+        })
+    }
+}
+
+impl Error for BoardRefusal {}

@@ -11,12 +11,7 @@ use std::test::Fail;
 
 // Whether the outlets of the cell are exactly these, in this order.
 fn has_outlets<B: Board>(board: &B, cell: u16, outlets: &[u16]) -> bool {
-    for j in 0..9u8 {
-        if board.outlet(cell, j) != outlets.get(j as usize).copied() {
-            return false;
-        }
-    }
-    true
+    (0..9u8).all(|j| board.outlet(cell, j) == outlets.get(j as usize).copied())
 }
 
 // Whether the cell lies at the place, and is found there.
@@ -28,17 +23,15 @@ fn lies_at<B: PlacedBoard>(board: &B, cell: u16, layer: u16, row: u16, column: u
 // The number of the first thing that is wrong with a map of `length` plain points.
 fn plain_fault(kind: MapKind, rows: u16, columns: u16, length: usize) -> u8 {
     let points = [0u8; 2112];
-    match points.get(0..length) {
-        Some(bytes) => fault(kind, rows, columns, bytes),
-        None => 255,
-    }
+    points
+        .get(..length)
+        .map_or(255, |bytes| fault(kind, rows, columns, bytes))
 }
 
 fn fault(kind: MapKind, rows: u16, columns: u16, bytes: &[u8]) -> u8 {
-    match check_map(kind, rows, columns, bytes) {
-        Ok(()) => 0,
-        Err(refusal) => refusal.number(),
-    }
+    check_map(kind, rows, columns, bytes)
+        .err()
+        .map_or(0, |refusal| refusal.number())
 }
 
 #[test]

@@ -13,9 +13,8 @@ returns g c =
     let few = (g.met.B.Board.bounded c.args.self.now.board).few_cells in
     let inside = c.in_ok-require.ensures.1 in
     let h : cell / 64 < length mask = omega arith in
-    let e = one_shl (cell % 64) 64 (omega arith) in
     record {
       answer = (c.in_ok-require.ensures.0, tt);
-      closes = λ d. ap (λ v. is_closed (set mask (cell / 64) (bit_or (get_or mask (cell / 64) 0) v)) d) e ∙ closing mask cell h d;
+      closes = closing mask cell h;
       same_board = refl;
     }

@@ -1,29 +1,24 @@
-use Rattle.std.proofs.Common.{◌^◌, ◌<◌, ◌≤◌, get_or, ◌∙◌, arith, take_all, rules, below_more}
-use lib.Count.{ones, ones-le}
-use Rattle.std.proofs.lemmas.List.Sums.{sum_by_more}
-use Rattle.boards.proofs.Masks.{ones_closed}
+use Rattle.std.proofs.Common.{ℕ, ◌^◌, ◌<◌, length, get_or, ◌∙◌, arith, rules}
+use lib.Count.{ones}
+use borrow.Author.Tests.{tests}
+use Rattle.std.proofs.lemmas.Iterator.{YieldsList-from_map, YieldsList-from_slice}
+use Rattle.std.proofs.lemmas.Iterator.Consumers.{sum_by_from_yields_List, fits_by_from_yields_list, YieldsList-at}
+use Rattle.boards.proofs.Masks.{few_ones, ones_closed}
 use Rattle.boards.proofs.keep_out.KeepOut.closed_cells.Goals as goal
 
-pub overflow_add-sum : goal.overflow_add-sum
-overflow_add-sum g c =
-    let x = get_or c.args.self.now.mask c.loop-i.i 0 in
-    let h : x < 2 ^ 64 = search rules in
-    let k : ones x ≤ 64 = ones-le 64 x h in
-    search rules
-
-pub loop-i-preserved : goal.loop-i-preserved
-loop-i-preserved g c =
+pub sum-requires-clause-fits : goal.sum-requires-clause-fits
+sum-requires-clause-fits g c =
     let mask = c.args.self.now.mask in
-    let x = get_or mask c.loop-i.i 0 in
     let n = c.args.self.now.full in
-    let h : x < 2 ^ 64 = search rules in
-    let k : ones x ≤ 64 = ones-le 64 x h in
-    let e = sum_by_more ones mask c.loop-i.i 0 (omega arith) in
-    (omega arith, omega arith, below_more _ _ c.loop-i.invariant.2 h)
+    let fit : (k : ℕ) → k < length mask → get_or mask k 0 < 2 ^ 64 = λ k l. search rules in
+    fits_by_from_yields_list ones mask c.map.result _
+    (YieldsList-from_map _ ones (YieldsList-at c.map.ensures.source (YieldsList-from_slice mask cc)) c.map.ensures.closure (λ x r q k. search (rules, tests)))
+    (omega (arith, few_ones mask fit))
 
 pub returns : goal.returns
 returns g c =
     let mask = c.args.self.now.mask in
-    let n = c.args.self.now.full in
-    let e = take_all c.loop-i.i mask (omega arith) in
-    rw e at c.loop-i.invariant.1 ∙ ones_closed mask n (λ k l. c.loop-i.invariant.2 k (omega arith))
+    let fit : (k : ℕ) → k < length mask → get_or mask k 0 < 2 ^ 64 = λ k l. search rules in
+    sum_by_from_yields_List ones mask c.map.result c.sum.result c.sum.ensures.ran
+    (YieldsList-from_map _ ones (YieldsList-at c.map.ensures.source (YieldsList-from_slice mask cc)) c.map.ensures.closure (λ x r q k. search (rules, tests)))
+    ∙ ones_closed mask c.args.self.now.full fit

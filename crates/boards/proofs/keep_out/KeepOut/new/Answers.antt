@@ -4,4 +4,4 @@ use Rattle.boards.proofs.Masks.{nothing_closed}
 use Rattle.boards.proofs.keep_out.KeepOut.new.Goals as goal
 
 pub returns : goal.returns
-returns g c = record { over = refl; nothing = λ d. ap (λ mask. is_closed mask d) c.no_bits.ensures ∙ nothing_closed d }
+returns g c = record { over = refl; nothing = nothing_closed }
