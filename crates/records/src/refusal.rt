@@ -2,6 +2,8 @@
 ghost use Rattle.std.specs.Prelude.{◌≡◌};
 ghost use Rattle.records.specs.Numbers.{number_of};
 
+use std::fmt;
+
 // Each case has a number; a call gives the first, in rising order, whose condition holds.
 #[derive(Clone, Copy, PartialEq, Eq, Debug)]
 pub enum Refusal {
@@ -49,6 +51,36 @@ impl Refusal {
             Refusal::NotBarred => 10,
             Refusal::WiredPad => 11,
             Refusal::NoWay { .. } => 12,
+        }
+    }
+}
+
+impl fmt::Display for Refusal {
+    fn fmt<W: fmt::Write>(&self, f: &mut fmt::Formatter<W>) -> fmt::Result {
+        match self {
+            Refusal::WrongDrawing => {
+                f.write_str("the drawing memory is not exactly one record for each cell")
+            }
+            Refusal::ShortWork => {
+                f.write_str("work memory has fewer than four numbers for each cell")
+            }
+            Refusal::ShortReport => {
+                f.write_str("report memory has fewer than two numbers for each cell")
+            }
+            Refusal::NotLawful => f.write_str("the drawing is not lawful"),
+            Refusal::NoSuchCell => f.write_str("the number is no cell"),
+            Refusal::NotPad => f.write_str("the cell is no pad"),
+            Refusal::WiredAlready => f.write_str("the pad is wired already"),
+            Refusal::NotWired => f.write_str("the pad is not wired"),
+            Refusal::BarredAlready => f.write_str("the cell is barred already"),
+            Refusal::NotBarred => f.write_str("the cell is not barred"),
+            Refusal::WiredPad => f.write_str("the cell is a wired pad"),
+            Refusal::NoWay { pads, cells } => {
+                write!(
+                    f,
+                    "there is no way: {pads} pads behind a fence of {cells} cells"
+                )
+            }
         }
     }
 }
