@@ -87,6 +87,13 @@ impl Record {
         matches!(self, Record::Net { before: None, .. })
     }
 
+    // Whether the cell is the last of a net.
+    pub fn is_last(&self) -> bool
+        ensures { result ≡ is_last self.now }
+    {
+        matches!(self, Record::Net { after: None, .. })
+    }
+
     // Whether the cell is barred.
     pub fn is_barred(&self) -> bool
         ensures { result ≡ is_barred self.now }

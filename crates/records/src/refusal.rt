@@ -57,30 +57,24 @@ impl Refusal {
 
 impl fmt::Display for Refusal {
     fn fmt<W: fmt::Write>(&self, f: &mut fmt::Formatter<W>) -> fmt::Result {
-        match self {
-            Refusal::WrongDrawing => {
-                f.write_str("the drawing memory is not exactly one record for each cell")
-            }
-            Refusal::ShortWork => {
-                f.write_str("work memory has fewer than four numbers for each cell")
-            }
-            Refusal::ShortReport => {
-                f.write_str("report memory has fewer than two numbers for each cell")
-            }
-            Refusal::NotLawful => f.write_str("the drawing is not lawful"),
-            Refusal::NoSuchCell => f.write_str("the number is no cell"),
-            Refusal::NotPad => f.write_str("the cell is no pad"),
-            Refusal::WiredAlready => f.write_str("the pad is wired already"),
-            Refusal::NotWired => f.write_str("the pad is not wired"),
-            Refusal::BarredAlready => f.write_str("the cell is barred already"),
-            Refusal::NotBarred => f.write_str("the cell is not barred"),
-            Refusal::WiredPad => f.write_str("the cell is a wired pad"),
+        f.write_str(match self {
+            Refusal::WrongDrawing => "the drawing memory is not exactly one record for each cell",
+            Refusal::ShortWork => "work memory has fewer than four numbers for each cell",
+            Refusal::ShortReport => "report memory has fewer than two numbers for each cell",
+            Refusal::NotLawful => "the drawing is not lawful",
+            Refusal::NoSuchCell => "the number is no cell",
+            Refusal::NotPad => "the cell is no pad",
+            Refusal::WiredAlready => "the pad is wired already",
+            Refusal::NotWired => "the pad is not wired",
+            Refusal::BarredAlready => "the cell is barred already",
+            Refusal::NotBarred => "the cell is not barred",
+            Refusal::WiredPad => "the cell is a wired pad",
             Refusal::NoWay { pads, cells } => {
-                write!(
+                return write!(
                     f,
-                    "there is no way: {pads} pads behind a fence of {cells} cells"
-                )
+                    "there is no way: pads behind the fence {pads}, cells in it {cells}"
+                );
             }
-        }
+        })
     }
 }
