@@ -11,6 +11,14 @@ use Rattle.linkages.proofs.Members.{mem_none, mem_at}
 use Rattle.drawings.proofs.Cells.{length_below}
 use Rattle.drawings.proofs.Said.{none_not_some, some_same, before_net, after_net, first_net, last_net, net_last, net_first, net_inside}
 
+-- ---- going on from a cell, in any drawing
+
+-- no more cells are met than asked for
+pub onward_short : (d : List Record) (o : Option ℕ) (k : ℕ) → length (onward d o k) ≤ k
+onward_short d None k = omega arith
+onward_short d (Some c) zero = omega arith
+onward_short d (Some c) (suc k) = omega (arith, onward_short d (after_at d c) k)
+
 -- ---- a run, of any drawing
 
 pub run_first : {d : List Record} {c : ℕ} {xs : List ℕ} → Runs d c xs → Mem c xs

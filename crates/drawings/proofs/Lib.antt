@@ -1,5 +1,6 @@
 pub mod Members
 pub mod Cells
+pub mod Ranges
 pub mod Outlets
 pub mod Said
 pub mod Follow
@@ -7,6 +8,7 @@ pub mod Counts
 pub mod Locals
 pub mod Changed
 pub mod Freeing
+pub mod Following
 pub mod Linking
 pub mod Relaying
 pub mod Accepted

@@ -48,6 +48,21 @@ IsNotBarred d c = barred_at d c ≡ false
 abbrev pub HasNoWay : Meaning → List ℕ → List ℕ → Type 0
 HasNoWay m bars pads = CanBeMet m bars pads → ⊥
 
+-- the drawing is lawful, and the cell is a wired pad of it
+pub record IsWiredPad (m : Meaning) (d : List Record) (c : ℕ) : Type 0 where
+  pub lawful : Lawful m d
+  pub inside : c < m.cells
+  pub pad : pad_at m c ≡ true
+  pub wired : IsWired d c
+
+-- ---- the conditions that several calls look at together, by number: of a cell of a lawful drawing, and of a wired pad of one
+
+abbrev pub CellRefused : Meaning → List Record → ℕ → ℕ → Type 0
+CellRefused m d c n = ((n ≡ 4) × IsNotLawful m d) ⊎ ((n ≡ 5) × IsNoSuchCell m c)
+
+abbrev pub PadRefused : Meaning → List Record → ℕ → ℕ → Type 0
+PadRefused m d c n = ((n ≡ 4) × IsNotLawful m d) ⊎ (((n ≡ 5) × IsNoSuchCell m c) ⊎ (((n ≡ 6) × IsNotPad m c) ⊎ ((n ≡ 8) × IsNotWired d c)))
+
 -- ---- the conditions of each call, by number
 
 abbrev pub NewRefused : Meaning → List Record → ℕ → Type 0

@@ -4,3 +4,4 @@ pub mod Changes
 pub mod Conditions
 pub mod Outcomes
 pub mod Links
+pub mod Following

@@ -8,7 +8,7 @@ ghost use Rattle.records.specs.Numbers.{number_of};
 ghost use Rattle.drawings.specs.Conditions.{NewRefused, LiftRefused, ClearRefused, ShowRefused};
 ghost use Rattle.drawings.specs.Outcomes.{Made, Lifted, Cleared, Shown};
 
-use crate::lawful::is_lawful;
+use crate::checks::{check_cell, check_size, check_wired_pad};
 use crate::nets::{list_net, take_up};
 use boards::board::Board;
 use records::record::{Record, put, record_at};
@@ -19,12 +19,8 @@ pub fn new<B: Board>(board: &B, drawing: &mut [Record]) -> Result<u16, Refusal>
     ensures answer { Answer number_of (NewRefused (B.meaning board.now) drawing.old) (Made (B.meaning board.now) drawing.new) result }
     ensures kept { OnErr result (drawing.new ≡ drawing.old) }
 {
-    if drawing.len() != board.cells() as usize {
-        return Err(Refusal::WrongDrawing);
-    }
-    for record in drawing.iter_mut() {
-        *record = Record::Free;
-    }
+    check_size(board, drawing)?;
+    drawing.fill(Record::Free);
     Ok(0)
 }
 
@@ -34,39 +30,16 @@ pub fn lift<B: Board>(board: &B, drawing: &mut [Record], cell: u16) -> Result<u1
         (Lifted (B.meaning board.now) drawing.old drawing.new cell) result }
     ensures kept { OnErr result (drawing.new ≡ drawing.old) }
 {
-    if drawing.len() != board.cells() as usize {
-        return Err(Refusal::WrongDrawing);
-    }
-    if !is_lawful(board, drawing) {
-        return Err(Refusal::NotLawful);
-    }
-    if cell >= board.cells() {
-        return Err(Refusal::NoSuchCell);
-    }
-    if !board.is_pad(cell) {
-        return Err(Refusal::NotPad);
-    }
-    if !record_at(drawing, cell).is_first() {
-        return Err(Refusal::NotWired);
-    }
-    match take_up(drawing, cell) {
-        Some(landing) => Ok(landing),
-        None => Err(Refusal::NotWired),
-    }
+    check_size(board, drawing)?;
+    check_wired_pad(board, drawing, cell)?;
+    take_up(drawing, cell).ok_or(Refusal::NotWired)
 }
 
 // The number of bars.
-fn count_bars<B: Board>(board: &B, drawing: &[Record]) -> u16
-    requires { length drawing.now ≡ (B.meaning board.now).cells }
+fn count_bars(drawing: &[Record]) -> usize
     ensures { result ≡ length (bars drawing.now) }
 {
-    let mut count = 0;
-    for cell in 0..board.cells() {
-        if record_at(drawing, cell).is_barred() {
-            count += 1;
-        }
-    }
-    count
+    drawing.iter().filter(|record| record.is_barred()).count()
 }
 
 // Makes a barred cell free and answers how many bars remain.
@@ -75,20 +48,13 @@ pub fn clear<B: Board>(board: &B, drawing: &mut [Record], cell: u16) -> Result<u
         (Cleared (B.meaning board.now) drawing.old drawing.new cell) result }
     ensures kept { OnErr result (drawing.new ≡ drawing.old) }
 {
-    if drawing.len() != board.cells() as usize {
-        return Err(Refusal::WrongDrawing);
-    }
-    if !is_lawful(board, drawing) {
-        return Err(Refusal::NotLawful);
-    }
-    if cell >= board.cells() {
-        return Err(Refusal::NoSuchCell);
-    }
+    check_size(board, drawing)?;
+    check_cell(board, drawing, cell)?;
     if !record_at(drawing, cell).is_barred() {
         return Err(Refusal::NotBarred);
     }
     put(drawing, cell, Record::Free);
-    Ok(count_bars(board, drawing))
+    Ok(count_bars(drawing) as u16)
 }
 
 // Writes the cells of a wired pad's net, from the pad to the landing, to the front of report memory and answers how many they are.
@@ -102,26 +68,11 @@ pub fn show<B: Board>(
         (Shown (B.meaning board.now) drawing.now report.old report.new cell) result }
     ensures kept { OnErr result (report.new ≡ report.old) }
 {
-    if drawing.len() != board.cells() as usize {
-        return Err(Refusal::WrongDrawing);
-    }
+    check_size(board, drawing)?;
     if report.len() < 2 * board.cells() as usize {
         return Err(Refusal::ShortReport);
     }
-    if !is_lawful(board, drawing) {
-        return Err(Refusal::NotLawful);
-    }
-    if cell >= board.cells() {
-        return Err(Refusal::NoSuchCell);
-    }
-    if !board.is_pad(cell) {
-        return Err(Refusal::NotPad);
-    }
-    if !record_at(drawing, cell).is_first() {
-        return Err(Refusal::NotWired);
-    }
-    match list_net(drawing, cell, report) {
-        Some(count) => Ok(count as u16),
-        None => Err(Refusal::NotWired),
-    }
+    check_wired_pad(board, drawing, cell)?;
+    let count = list_net(drawing, cell, report).ok_or(Refusal::NotWired)?;
+    Ok(count as u16)
 }

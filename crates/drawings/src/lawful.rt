@@ -2,15 +2,15 @@
 //
 // The rules about a cell and the cells that it names are looked at cell by cell. Then the net cells are counted, and once
 // more by following every net from its first cell: the counts are equal exactly if every net cell is reached.
-ghost use Rattle.std.specs.Prelude.{◌≡◌, ℕ, ◌<◌, true, length, Some, Decides};
+ghost use Rattle.std.specs.Prelude.{◌≡◌, ℕ, ◌<◌, true, length, Decides};
 ghost use Rattle.std.specs.List.{flat_map};
 ghost use Rattle.boards.specs.Meaning.{outlets_of};
 ghost use Rattle.linkages.specs.Lists.{Mem};
-ghost use Rattle.drawings.specs.Nets.{before_at, after_at, net_at, cells_where, wired, net};
+ghost use Rattle.drawings.specs.Nets.{net_at, cells_where, wired, net};
 ghost use Rattle.drawings.specs.Lawful.{Local, Begins, GoesOn, Lawful};
 ghost use Rattle.drawings.specs.Links.{Linked};
 
-use crate::nets::net_length;
+use crate::nets::follow;
 use boards::board::Board;
 use records::record::{Record, record_at};
 
@@ -18,34 +18,7 @@ use records::record::{Record, record_at};
 fn leads<B: Board>(board: &B, from: u16, to: u16) -> bool
     ensures { Decides result (Mem to (outlets_of (B.meaning board.now) from)) }
 {
-    for j in 0..8u8 {
-        if let Some(outlet) = board.outlet(from, j) {
-            if outlet == to {
-                return true;
-            }
-        }
-    }
-    false
-}
-
-// Whether a cell is on a net and names another as the cell before it.
-fn comes_from(drawing: &[Record], cell: u16, from: u16) -> bool
-    ensures { Decides result (before_at drawing.now cell ≡ Some from) }
-{
-    match record_at(drawing, cell).before() {
-        Some(before) => before == from,
-        None => false,
-    }
-}
-
-// Whether a cell is on a net and names another as the cell after it.
-fn goes_to(drawing: &[Record], cell: u16, to: u16) -> bool
-    ensures { Decides result (after_at drawing.now cell ≡ Some to) }
-{
-    match record_at(drawing, cell).after() {
-        Some(after) => after == to,
-        None => false,
-    }
+    (0..8u8).any(|j| board.outlet(from, j) == Some(to))
 }
 
 // Whether a net cell begins rightly: at a pad, or after a cell that leads on to it.
@@ -53,7 +26,7 @@ fn begins<B: Board>(board: &B, drawing: &[Record], cell: u16, before: Option<u16
     ensures { Decides result (Begins (B.meaning board.now) drawing.now cell before) }
 {
     match before {
-        Some(from) => goes_to(drawing, from, cell),
+        Some(from) => record_at(drawing, from).after() == Some(cell),
         None => board.is_pad(cell),
     }
 }
@@ -65,7 +38,7 @@ fn goes_on<B: Board>(board: &B, drawing: &[Record], cell: u16, after: Option<u16
     match after {
         Some(to) => !board.is_landing(cell)
             && leads(board, cell, to)
-            && comes_from(drawing, to, cell),
+            && record_at(drawing, to).before() == Some(cell),
         None => board.is_landing(cell),
     }
 }
@@ -77,8 +50,7 @@ fn fits<B: Board>(board: &B, drawing: &[Record], cell: u16) -> bool
     match record_at(drawing, cell) {
         Record::Net { before, after } => begins(board, drawing, cell, before)
             && goes_on(board, drawing, cell, after),
-        Record::Free => true,
-        Record::Barred => true,
+        Record::Free | Record::Barred => true,
     }
 }
 
@@ -86,42 +58,36 @@ fn fits<B: Board>(board: &B, drawing: &[Record], cell: u16) -> bool
 fn is_local<B: Board>(board: &B, drawing: &[Record]) -> bool
     ensures { Decides result ((c : ℕ) → c < (B.meaning board.now).cells → Local (B.meaning board.now) drawing.now c) }
 {
-    for cell in 0..board.cells() {
-        if !fits(board, drawing, cell) {
-            return false;
-        }
-    }
-    true
+    (0..board.cells()).all(|cell| fits(board, drawing, cell))
 }
 
 // The number of cells on nets.
 fn net_cells(drawing: &[Record]) -> usize
     ensures { result ≡ length (cells_where drawing.now (net_at drawing.now)) }
 {
-    let mut count = 0;
-    for record in drawing {
-        if record.is_net() {
-            count += 1;
-        }
-    }
-    count
+    // A sum of ones: `filter(..).count()` makes the whole check a fourteenth slower.
+    drawing
+        .iter()
+        .map(|record| usize::from(record.is_net()))
+        .sum()
+}
+
+// The number of cells met by following a net from its first cell.
+fn reached_from(drawing: &[Record], first: u16) -> usize
+    ensures { result ≡ length (net drawing.now first) }
+{
+    follow(drawing, first).count()
 }
 
 // The number of cells met by following every net from its first cell.
 fn reached_cells<B: Board>(board: &B, drawing: &[Record]) -> usize
-    requires long { length drawing.now ≡ (B.meaning board.now).cells }
-    requires local { (c : ℕ) → Local (B.meaning board.now) drawing.now c }
+    requires { length drawing.now ≡ (B.meaning board.now).cells }
     ensures { result ≡ length (flat_map (net drawing.now) (wired drawing.now)) }
 {
-    let mut count = 0;
-    for cell in 0..board.cells() {
-        if record_at(drawing, cell).is_first() {
-            if let Some(length) = net_length(drawing, cell) {
-                count += length;
-            }
-        }
-    }
-    count
+    (0..board.cells())
+        .filter(|cell| record_at(drawing, *cell).is_first())
+        .map(|first| reached_from(drawing, first))
+        .sum()
 }
 
 // Whether a drawing is lawful for a board, for any records whatever. The nets of a lawful drawing link its wired pads to landings.
@@ -129,11 +95,7 @@ pub fn is_lawful<B: Board>(board: &B, drawing: &[Record]) -> bool
     ensures decides { Decides result (Lawful (B.meaning board.now) drawing.now) }
     ensures links { result ≡ true → Linked (B.meaning board.now) drawing.now }
 {
-    if drawing.len() != board.cells() as usize {
-        return false;
-    }
-    if !is_local(board, drawing) {
-        return false;
-    }
-    net_cells(drawing) == reached_cells(board, drawing)
+    drawing.len() == board.cells() as usize
+        && is_local(board, drawing)
+        && net_cells(drawing) == reached_cells(board, drawing)
 }

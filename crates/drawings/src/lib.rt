@@ -4,5 +4,6 @@
 #![tactic(auto)]
 
 pub mod calls;
+pub mod checks;
 pub mod lawful;
 pub mod nets;

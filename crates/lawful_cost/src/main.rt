@@ -9,8 +9,8 @@ use boards::field::Field;
 use drawings::lawful::is_lawful;
 use drawings::nets::lay;
 use records::record::Record;
-use std::alloc::Global;
-use std::{env, io};
+use std::alloc::{AllocError, Global};
+use std::{env, io, iter};
 
 // The k-th point of a course that goes through the rows to and fro.
 fn point(k: u16) -> u16
@@ -25,59 +25,47 @@ fn point(k: u16) -> u16
 }
 
 // The map: pads at the first two points of the course, landings at the last two.
-fn map(heap: Global, points: u16) -> io::Result<Vec<u8>>
+fn map(heap: Global, points: u16) -> Result<Vec<u8>, AllocError>
     requires { points ≤ 2048 }
 {
-    let mut bytes = Vec::new(heap);
-    for k in 0..points {
-        let last = k + 32 == points || k + 31 == points;
-        bytes.push(if k < 2 {
-            1
-        } else if last {
-            2
-        } else {
-            0
-        })?;
-    }
-    Ok(bytes)
+    (0..points)
+        .map(|k| {
+            if k < 2 {
+                1
+            } else if k + 32 == points || k + 31 == points {
+                2
+            } else {
+                0
+            }
+        })
+        .collect(heap)
 }
 
 // The net of the first pad: down, and along the lower layer to the last point but one.
-fn lower(heap: Global, points: u16) -> io::Result<Vec<u16>>
+fn lower(heap: Global, points: u16) -> Result<Vec<u16>, AllocError>
     requires { points ≤ 2048 }
 {
-    let mut cells = Vec::new(heap);
-    cells.push(0)?;
-    for k in 0..points {
-        if k + 1 < points {
-            cells.push(points + point(k))?;
-        }
-    }
-    Ok(cells)
+    iter::once(0)
+        .chain((1..points).map(|k| points + point(k - 1)))
+        .collect(heap)
 }
 
 // The net of the second pad: along the upper layer to the last point, and down.
-fn upper(heap: Global, points: u16) -> io::Result<Vec<u16>>
+fn upper(heap: Global, points: u16) -> Result<Vec<u16>, AllocError>
     requires { points ≤ 2048 }
 {
-    let mut cells = Vec::new(heap);
-    for k in 0..points {
-        if k > 0 {
-            cells.push(point(k))?;
-        }
-        if k + 1 == points {
-            cells.push(points + point(k))?;
-        }
-    }
-    Ok(cells)
+    let end = points.checked_sub(1);
+    (1..points)
+        .map(|k| point(k))
+        .chain(end.map(|k| points + point(k)))
+        .collect(heap)
 }
 
 // The argument of a number, or 0.
 fn number(args: &mut env::Args) -> u16 {
-    match args.next() {
-        Some(text) => text.as_str().parse().unwrap_or(0),
-        None => 0,
-    }
+    args.next()
+        .and_then(|text| text.as_str().parse().ok())
+        .unwrap_or(0)
 }
 
 fn main(rt: HostRuntime) -> io::Result<()> {

@@ -2,6 +2,8 @@
 ghost use Rattle.std.specs.Prelude.{◌≡◌};
 ghost use Rattle.records.specs.Numbers.{number_of};
 
+use std::fmt;
+
 // Each case has a number; a call gives the first, in rising order, whose condition holds.
 #[derive(Clone, Copy, PartialEq, Eq, Debug)]
 pub enum Refusal {
@@ -50,5 +52,29 @@ impl Refusal {
             Refusal::WiredPad => 11,
             Refusal::NoWay { .. } => 12,
         }
+    }
+}
+
+impl fmt::Display for Refusal {
+    fn fmt<W: fmt::Write>(&self, f: &mut fmt::Formatter<W>) -> fmt::Result {
+        f.write_str(match self {
+            Refusal::WrongDrawing => "the drawing memory is not exactly one record for each cell",
+            Refusal::ShortWork => "work memory has fewer than four numbers for each cell",
+            Refusal::ShortReport => "report memory has fewer than two numbers for each cell",
+            Refusal::NotLawful => "the drawing is not lawful",
+            Refusal::NoSuchCell => "the number is no cell",
+            Refusal::NotPad => "the cell is no pad",
+            Refusal::WiredAlready => "the pad is wired already",
+            Refusal::NotWired => "the pad is not wired",
+            Refusal::BarredAlready => "the cell is barred already",
+            Refusal::NotBarred => "the cell is not barred",
+            Refusal::WiredPad => "the cell is a wired pad",
+            Refusal::NoWay { pads, cells } => {
+                return write!(
+                    f,
+                    "there is no way: pads behind the fence {pads}, cells in it {cells}"
+                );
+            }
+        })
     }
 }

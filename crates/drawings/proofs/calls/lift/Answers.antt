@@ -1,32 +1,25 @@
-use Rattle.std.proofs.Common.{◌≡◌, true, sym, ap, ◌∙◌, arith}
-use Rattle.boards.specs.Meaning.{pad_at}
-use Rattle.records.specs.Records.{is_first}
-use Rattle.drawings.specs.Nets.{first_at, net}
-use Rattle.drawings.proofs.Follow.{net_runs}
-use Rattle.drawings.proofs.Accepted.{may_lift, lifted}
+use Rattle.std.proofs.Common.{sym, subst}
+use Rattle.std.proofs.lemmas.Result.{err_from_is_err_and}
+use Rattle.boards.specs.Refusals.{Answer}
+use Rattle.records.specs.Numbers.{number_of}
+use Rattle.drawings.specs.Conditions.{LiftRefused}
+use Rattle.drawings.specs.Outcomes.{Lifted}
+use Rattle.drawings.proofs.Accepted.{lift_first, lift_answer}
 use Rattle.drawings.proofs.calls.lift.Goals as goal
 
-pub returns-in-Some : goal.returns-in-Some
-returns-in-Some g c =
+pub returns-in_err-check_wired_pad-clause-answer :
+    goal.returns-in_err-check_wired_pad-clause-answer
+returns-in_err-check_wired_pad-clause-answer g c =
     let m = g.B.Board.meaning c.args.board.now in
-    let d = c.args.drawing.now in
-    let x = c.args.cell in
-    let W = c.is_lawful.ensures.decides.0 c.if-not-is_lawful.false in
-    let pad : pad_at m x ≡ true = sym c.if-not-is_pad.ensures in
-    let wired : first_at d x ≡ true = sym (ap is_first c.record_at.ensures) ∙ sym c.if-not-is_first.ensures in
-    record {
-      answer = (
-        may_lift m d x W (omega arith) pad wired,
-        lifted m d x W c.take_up.new.drawing c.in-Some.landing wired c.in-Some.ensures.answer,
-      );
-      kept = tt;
-    }
+    let p = err_from_is_err_and c.from_residual-in_err-check_wired_pad.result c.from_residual-in_err-check_wired_pad.ensures.1 in
+    rw (p.1, p.2) (lift_first m c.args.drawing.now c.args.cell _ c.in_ok-check_size.ensures.1 c.in_err-check_wired_pad.ensures)
 
-pub returns-in-None : goal.returns-in-None
-returns-in-None g c =
+pub returns-clause-answer : goal.returns-clause-answer
+returns-clause-answer g c =
     let m = g.B.Board.meaning c.args.board.now in
     let d = c.args.drawing.now in
     let x = c.args.cell in
-    let W = c.is_lawful.ensures.decides.0 c.if-not-is_lawful.false in
-    let wired : first_at d x ≡ true = sym (ap is_first c.record_at.ensures) ∙ sym c.if-not-is_first.ensures in
-    absurd (c.in-None.ensures.answer.0 (net d x) (net_runs m d W.local x wired))
+    let e = c.take_up.new.drawing in
+    let W = c.in_ok-check_wired_pad.ensures in
+    subst (Answer number_of (LiftRefused m d x) (Lifted m d e x)) (sym c.ok_or.ensures.value)
+    (lift_answer m d x e c.take_up.result c.in_ok-check_size.ensures.1 W.0 W.1 c.take_up.ensures.answer)

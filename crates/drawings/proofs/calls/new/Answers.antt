@@ -1,20 +1,17 @@
-use Rattle.std.proofs.Common.{◌≡◌, ℕ, length, ⊎_elim, arith, below_more}
-use Rattle.std.proofs.lemmas.List.{get_or_past}
+use Rattle.std.proofs.Common.{◌≡◌, ℕ, length, replicate, ap, ◌∙◌, ⊎_elim, arith, rules}
+use Rattle.std.proofs.lemmas.List.{get_or_past, get_or-replicate}
 use Rattle.std.proofs.lemmas.Bool.{cases_lt}
 use Rattle.records.specs.declared.record.Record.TheVariants.{Free}
 use Rattle.records.specs.Records.{record_at}
 use Rattle.drawings.proofs.Accepted.{made}
-use Rattle.drawings.proofs.Changed.{set_free, set_free_stays}
 use Rattle.drawings.proofs.calls.new.Goals as goal
 
-pub loop-record-preserved : goal.loop-record-preserved
-loop-record-preserved g c =
-    below_more _ _ (λ k h. set_free_stays c.loop-record.drawing c.loop-record.record-index k (c.loop-record.invariant k h))
-    (set_free c.loop-record.drawing c.loop-record.record-index)
-
-pub returns : goal.returns
-returns g c =
-    let e = c.loop-record.drawing in
+pub returns-clause-answer : goal.returns-clause-answer
+returns-clause-answer g c =
+    let m = g.B.Board.meaning c.args.board.now in
+    let n = length c.args.drawing.now in
+    let e = c.fill.new.self in
+    let same : e ≡ replicate n Free = c.fill.ensures.after (λ y k. search rules) in
     let all : (k : ℕ) → record_at e k ≡ Free = λ k.
-    ⊎_elim (λ h. c.loop-record.invariant k (omega (arith, h))) (λ h. get_or_past e k Free h) (cases_lt k (length e)) in
-    record { answer = (λ k h. h.1 (omega arith), made (g.B.Board.meaning c.args.board.now) e (omega arith) all); kept = tt }
+    ⊎_elim (λ h. ap (λ z. record_at z k) same ∙ get_or-replicate n k Free Free (omega arith)) (λ h. get_or_past e k Free h) (cases_lt k (length e)) in
+    (c.in_ok-check_size.ensures.0, made m e (c.fill.ensures.len ∙ c.in_ok-check_size.ensures.1) all)

@@ -1,15 +1,15 @@
-use Rattle.std.proofs.Common.{◌≡◌, ◌+◌, ◌++◌, length, take, drop}
-use Rattle.drawings.specs.Nets.{net, Runs}
+use Rattle.std.proofs.Common.{◌≡◌, ◌+◌, ◌≤◌, ◌++◌, length, take, drop}
+use Rattle.std.specs.Iterator.Adapters.{enumerate_source, enumerate_count}
+use Rattle.drawings.specs.Nets.{net}
+use Rattle.drawings.specs.Following.{cells_left}
+use Rattle.drawings.specs.Changes.{written}
 use Rattle.drawings.proofs.nets.list_from.Given as goal
 
--- what is written and what is left make the net
-abbrev pub invariant-loop-next : goal.invariant-loop-next
-invariant-loop-next l =
-    Runs l.drawing l.cell (net l.drawing l.cell) ×
-    (l.count + length (net l.drawing l.cell) ≡ length (net l.drawing l.first)) ×
-    (length l.into ≡ length l.initial.into) ×
-    (take l.count l.into ++ net l.drawing l.cell ≡ net l.drawing l.first) ×
-    (drop l.count l.into ≡ drop l.count l.initial.into)
-
-abbrev pub decreases-loop-next : goal.decreases-loop-next
-decreases-loop-next l = length (net l.drawing l.cell)
+-- there is room for what is left, and writing it comes to the same
+abbrev pub invariant-loop-place : goal.invariant-loop-place
+invariant-loop-place l =
+    (goal.iterator-loop-place).can_next l.place-iterator ×
+    (goal.iterator-loop-place).is_finite l.place-iterator ×
+    (enumerate_count l.place-iterator + length (cells_left (enumerate_source l.place-iterator)) ≤ length l.into) ×
+    (take (enumerate_count l.place-iterator) l.into ++ written (cells_left (enumerate_source l.place-iterator)) (drop (enumerate_count l.place-iterator) l.into)
+    ≡ written (net l.drawing l.first) l.initial.into)
