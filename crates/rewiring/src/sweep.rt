@@ -8,7 +8,8 @@ ghost use Rattle.rewiring.specs.Marks.{marked, MarksReached, is_stray, strays, S
 use boards::board::Board;
 use records::record::{Record, record_at};
 
-// Marks a cell; past the last mark nothing is written.
+// Marks a cell; past the last mark nothing is written. The marks are numbers, 1 for a mark and 0 for none, since they lie in the
+// work memory that the caller lends.
 fn mark(marks: &mut [u16], cell: u16)
     ensures { marks.new ≡ slice_set marks.old cell 1 }
 {
