@@ -1,4 +1,4 @@
-use Rattle.std.proofs.Common.{◌≡◌, ℕ, true, length, get_or, sym, ap, ◌∙◌, arith, rules}
+use Rattle.std.proofs.Common.{◌≡◌, ℕ, true, length, get_or, sym, ap, ◌∙◌, arith}
 use lib.ListN.{length-map}
 use Rattle.boards.specs.Places.{nowhere}
 use Rattle.boards.specs.Meaning.{pad_at}
@@ -9,24 +9,6 @@ use Rattle.layouts.specs.Readings.{points_on, places_of, points_written}
 use Rattle.layouts.proofs.Readers.{points_few, may_read}
 use Rattle.layouts.proofs.FieldWays.{field_layouts}
 use Rattle.layouts.proofs.reading.read_wire.Goals as goal
-
-pub returns-then-drawing-cells : goal.returns-then-drawing-cells
-returns-then-drawing-cells g c = record { answer = search rules; kept = search rules; layouts = field_layouts }
-
-pub returns-then-points-cells : goal.returns-then-points-cells
-returns-then-points-cells g c = record { answer = search rules; kept = search rules; layouts = field_layouts }
-
-pub returns-then-not-is_lawful : goal.returns-then-not-is_lawful
-returns-then-not-is_lawful g c = record { answer = search rules; kept = search rules; layouts = field_layouts }
-
-pub returns-then-pad-cells : goal.returns-then-pad-cells
-returns-then-pad-cells g c = record { answer = search rules; kept = search rules; layouts = field_layouts }
-
-pub returns-then-not-is_pad : goal.returns-then-not-is_pad
-returns-then-not-is_pad g c = record { answer = search rules; kept = search rules; layouts = field_layouts }
-
-pub returns-then-not-is_first : goal.returns-then-not-is_first
-returns-then-not-is_first g c = record { answer = search rules; kept = search rules; layouts = field_layouts }
 
 pub net_layer-layer-requires : goal.net_layer-layer-requires
 net_layer-layer-requires g c =
