@@ -17,26 +17,27 @@ use drawings::lawful::is_lawful;
 use records::record::{Record, record_at};
 use records::refusal::Refusal;
 
+const NOWHERE: Place = Place {
+    layer: 0,
+    row: 0,
+    column: 0,
+};
+
 // The place of a cell, and a place on layer 0 for a number that is no cell.
 fn place_or_nowhere<B: PlacedBoard>(board: &B, cell: u16) -> Place
     ensures { result ≡ slice_index_or (B.PlacedBoard.places board.now) cell nowhere }
 {
-    match board.place(cell) {
-        Some(place) => place,
-        None => Place {
-            layer: 0,
-            row: 0,
-            column: 0,
-        },
-    }
+    board.place(cell).unwrap_or(NOWHERE)
 }
 
-// Whether a place lies right below another.
-fn is_right_below(upper: Place, lower: Place) -> bool
-    ensures { result ≡ right_below upper lower }
+// Whether a cell lies right below another.
+fn is_right_below<B: PlacedBoard>(board: &B, upper: u16, lower: u16) -> bool
+    ensures { result ≡ right_below (slice_index_or (B.PlacedBoard.places board.now) upper nowhere)
+        (slice_index_or (B.PlacedBoard.places board.now) lower nowhere) }
 {
-    lower.layer as u32 == upper.layer as u32 + 1
-        && (lower.row == upper.row && lower.column == upper.column)
+    let upper = place_or_nowhere(board, upper);
+    let lower = place_or_nowhere(board, lower);
+    lower.layer as u32 == upper.layer as u32 + 1 && Point::from(lower) == Point::from(upper)
 }
 
 // The layer on which the net of a pad lies.
@@ -44,34 +45,10 @@ fn net_layer<B: PlacedBoard>(board: &B, drawing: &[Record], pad: u16) -> Layer
     requires { Runs drawing.now pad (net drawing.now pad) }
     ensures { result ≡ lies_on (places_of (B.PlacedBoard.places board.now) (net drawing.now pad)) }
 {
-    let Some(second) = record_at(drawing, pad).after() else {
-        return Layer::Top;
-    };
-    if is_right_below(
-        place_or_nowhere(board, pad),
-        place_or_nowhere(board, second),
-    ) {
-        Layer::Bottom
-    } else {
-        Layer::Top
+    match record_at(drawing, pad).after() {
+        Some(second) if is_right_below(board, pad, second) => Layer::Bottom,
+        _ => Layer::Top,
     }
-}
-
-// Writes the point of a place, if it lies on the layer, after so many others, and gives back how many there are then.
-fn note_point(place: Place, layer: Layer, points: &mut [Point], count: usize) -> usize
-    requires { count < length points.old }
-    ensures counted { result ≡ count + length (points_on layer (place ∷ [])) }
-    ensures front { take result points.new ≡ take count points.old ++ points_on layer (place ∷ []) }
-    ensures back { drop result points.new ≡ drop result points.old }
-{
-    if place.layer != layer.number() {
-        return count;
-    }
-    points[count] = Point {
-        row: place.row,
-        column: place.column,
-    };
-    count + 1
 }
 
 // Writes the points of a net's cells on a layer to the front of a list, and gives back how many they are.
@@ -87,19 +64,24 @@ fn list_points<B: PlacedBoard>(
     ensures count { result ≡ length (points_on layer (places_of (B.PlacedBoard.places board.now) (net drawing.now pad))) }
     ensures writes { points.new ≡ points_written (points_on layer (places_of (B.PlacedBoard.places board.now) (net drawing.now pad))) points.old }
 {
-    let mut cell = pad;
     let mut count = 0;
-    while let Some(next) = record_at(drawing, cell).after() {
-        count = note_point(place_or_nowhere(board, cell), layer, points, count);
-        cell = next;
+    let mut next = Some(pad);
+    while let Some(cell) = next {
+        let place = place_or_nowhere(board, cell);
+        if place.layer == layer.number() {
+            points[count] = place.into();
+            count += 1;
+        }
+        next = record_at(drawing, cell).after();
     }
-    note_point(place_or_nowhere(board, cell), layer, points, count)
+    count
 }
 
 // Reads the net of a wired pad as a wire: gives back its layer and how many points it has, and writes the points, from the
 // pad's on, to the front of the list lent, which has room for one for each cell of the board.
 //
 // On a field this reading is the legal layout that the drawing stands for.
+#[tactic(auto, using(crate::proofs::FieldWays::field_layouts))]
 pub fn read_wire<B: PlacedBoard>(
     board: &B,
     drawing: &[Record],

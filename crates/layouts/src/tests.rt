@@ -1,8 +1,11 @@
 // Wires read on small fields.
+ghost use Rattle.std.specs.Prelude.{◌≤◌};
+
 use crate::reading::read_wire;
 use crate::wires::{Layer, Point};
 use boards::field::Field;
 use records::record::Record;
+use std::iter::repeat;
 use std::test::Fail;
 
 const FREE: Record = Record::Free;
@@ -31,34 +34,29 @@ fn last(before: u16) -> Record {
     }
 }
 
-// Whether the pad's net reads as the wire on the layer through the columns of row 0.
+// What a point is before any is written.
+const UNWRITTEN: Point = Point { row: 0, column: 99 };
+
+// Whether the pad's net reads as the wire on the layer through the columns of row 0, and no more is written.
 fn reads(field: &Field, drawing: &[Record], pad: u16, layer: Layer, columns: &[u16]) -> bool {
-    let mut points = [Point { row: 0, column: 99 }; 6];
-    let Ok((read, count)) = read_wire(field, drawing, pad, &mut points) else {
-        return false;
-    };
-    if read != layer || count as usize != columns.len() {
-        return false;
-    }
-    for i in 0..6usize {
-        let column = columns.get(i).copied().unwrap_or(99);
-        if points.get(i).copied() != Some(Point { row: 0, column }) {
-            return false;
-        }
-    }
-    true
+    let mut points = [UNWRITTEN; 6];
+    let wire = columns.iter().map(|&column| Point { row: 0, column });
+    read_wire(field, drawing, pad, &mut points).is_ok_and(|(read, count)| read == layer
+        && count as usize == columns.len())
+        && points
+            .iter()
+            .copied()
+            .eq(wire.chain(repeat(UNWRITTEN)).take(6))
 }
 
-// The number of the refusal, or 0.
-fn refusal(field: &Field, drawing: &[Record], pad: u16, room: usize) -> u8 {
-    let mut points = [Point { row: 0, column: 0 }; 6];
-    let Some(lent) = points.get_mut(0..room) else {
-        return 255;
-    };
-    match read_wire(field, drawing, pad, lent) {
-        Ok(_) => 0,
-        Err(refusal) => refusal.number(),
-    }
+// The number of the refusal of a reading into so many points, if it is refused.
+fn refusal(field: &Field, drawing: &[Record], pad: u16, room: usize) -> Option<u8>
+    requires { room ≤ 6 }
+{
+    let mut points = [UNWRITTEN; 6];
+    read_wire(field, drawing, pad, &mut points[..room])
+        .err()
+        .map(|refusal| refusal.number())
 }
 
 // A pad in column 0, landing points in columns 1 and 2.
@@ -101,9 +99,9 @@ fn one_point(rt: HostRuntime) -> Result<(), Fail> {
 fn refused(rt: HostRuntime) -> Result<(), Fail> {
     let field = Field::new(1, 3, [1u8, 1, 2].to_vec(rt.alloc())?);
     let drawing = [FREE, first(2), on(1, 5), FREE, FREE, last(2)];
-    assert_eq!(rt; refusal(&field, &drawing, 1, 6), 0);
-    assert_eq!(rt; refusal(&field, &[FREE], 1, 6), 1);
-    assert_eq!(rt; refusal(&field, &drawing, 1, 5), 3);
+    assert_eq!(rt; refusal(&field, &drawing, 1, 6), None);
+    assert_eq!(rt; refusal(&field, &[FREE], 1, 6), Some(1));
+    assert_eq!(rt; refusal(&field, &drawing, 1, 5), Some(3));
     assert_eq!(rt;
         refusal(
             &field,
@@ -111,11 +109,11 @@ fn refused(rt: HostRuntime) -> Result<(), Fail> {
             0,
             6,
         ),
-        4,
+        Some(4),
         "down at another pad"
     );
-    assert_eq!(rt; refusal(&field, &drawing, 6, 6), 5);
-    assert_eq!(rt; refusal(&field, &drawing, 2, 6), 6);
-    assert_eq!(rt; refusal(&field, &drawing, 0, 6), 8);
+    assert_eq!(rt; refusal(&field, &drawing, 6, 6), Some(5));
+    assert_eq!(rt; refusal(&field, &drawing, 2, 6), Some(6));
+    assert_eq!(rt; refusal(&field, &drawing, 0, 6), Some(8));
     Ok(())
 }

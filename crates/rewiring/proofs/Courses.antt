@@ -1,5 +1,6 @@
 -- A trail taken back as far as one of its cells.
-use Rattle.std.proofs.Common.{◌≡◌, ℕ, ◌+◌, ◌-◌, ◌<◌, true, ◌&&◌, ◌||◌, eqb, List, [], ◌∷◌, length, get_or, sym, ap, ◌∙◌, subst, inl, inr, ⊎_elim, arith}
+use Rattle.std.proofs.Common.{◌≡◌, ℕ, ◌+◌, ◌-◌, ◌<◌, true, ◌&&◌, ◌||◌, eqb, List, [], ◌∷◌, length, get_or, take, drop, ◌≤◌, sym, ap, ◌∙◌, subst, inl, inr, ⊎_elim, arith}
+use Rattle.std.proofs.lemmas.List.{get_or-take, get_or-drop, take-take, length-take-le}
 use Rattle.std.proofs.lemmas.Bool.{cases_lt, and_parts, and_from, or_cases, or_left, or_right, eqb-true, eq-eqb}
 use Rattle.boards.specs.Meaning.{Meaning, pad_at, landing_at}
 use Rattle.linkages.specs.Lists.{Mem, here, there, Next}
@@ -21,6 +22,23 @@ pub record BackTo (m : Meaning) (d : List Record) (z : ℕ) (e : List Record) (t
   pub inside : i < length ts
   pub stage : Stage m d z e (get_or ts i 0 ∷ []) []
   pub ahead : (j : ℕ) → j < i → SameFront d e (get_or ts j 0)
+
+-- the pairs of neighbours in a list, the last first: one comes off the front of the list that is left
+pub pair_turn : (ts left pair next : List ℕ) → left ≡ take (length left) ts → 2 ≤ length left → pair ≡ drop (length left - 2) left →
+    next ≡ take (length left - 1) left →
+    (length next ≡ length left - 1) × (next ≡ take (length next) ts) ×
+    (get_or pair 0 0 ≡ get_or ts (length left - 1 - 1) 0) × (get_or pair 1 0 ≡ get_or ts (length left - 1) 0)
+pair_turn ts left pair next f two e g =
+    let n = length left in
+    let long : length next ≡ n - 1 = ap length g ∙ length-take-le (n - 1) left (omega arith) in
+    let at = λ (k i : ℕ) (s : n - 2 + k ≡ i) (l : i < n).
+    ap (λ (xs : List ℕ). get_or xs k 0) e ∙ get_or-drop (n - 2) left k 0 ∙ ap (λ (j : ℕ). get_or left j 0) s
+    ∙ ap (λ (xs : List ℕ). get_or xs i 0) f ∙ get_or-take n ts i 0 l in (
+      long,
+      g ∙ ap (take (n - 1)) f ∙ take-take (n - 1) n ts (omega arith) ∙ ap (λ (k : ℕ). take k ts) (sym long),
+      at 0 (n - 1 - 1) (omega arith) (omega arith),
+      at 1 (n - 1) (omega arith) (omega arith),
+    )
 
 -- ---- a trail by places
 

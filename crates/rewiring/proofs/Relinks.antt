@@ -6,7 +6,7 @@ use Rattle.records.specs.declared.record.Record.{Record}
 use Rattle.records.specs.declared.record.Record.TheVariants.{Free, Barred, Net}
 use Rattle.records.specs.Records.{before_of, after_of, is_net, is_barred, is_first, is_last, record_at}
 use Rattle.drawings.specs.Nets.{before_at, after_at, net_at, first_at, last_at, barred_at}
-use Rattle.drawings.proofs.Said.{net_inside}
+use Rattle.drawings.proofs.Said.{net_unbarred, net_inside}
 use Rattle.drawings.proofs.Changed.{set_other}
 use Rattle.rewiring.specs.Moves.{with_before, with_after}
 
@@ -21,47 +21,18 @@ kept_answer f d c x r h same = ⊎_elim
     (λ n. ap f (set_other d c x r n))
     (cases_eq x c)
 
--- a net cell with another cell after it answers all else as it did
-module _ (r : Record) (a : Option ℕ) (n : is_net r ≡ true) where
-  front_net : is_net (Net (before_of r) a) ≡ is_net r
-  front_net = sym n
+-- a net cell with another cell after it begins a net if it did, and one with another before it ends one if it did
+first_kept : (r : Record) (a : Option ℕ) → is_net r ≡ true → is_first (Net (before_of r) a) ≡ is_first r
+first_kept Free a e = absurd (false≢true e)
+first_kept Barred a e = absurd (false≢true e)
+first_kept (Net None c) a e = refl
+first_kept (Net (Some b) c) a e = refl
 
-  front_barred : is_barred (Net (before_of r) a) ≡ is_barred r
-  front_barred = go r n
-    where
-      go : (r : Record) → is_net r ≡ true → is_barred (Net (before_of r) a) ≡ is_barred r
-      go Free e = refl
-      go Barred e = absurd (false≢true e)
-      go (Net b c) e = refl
-
-  front_first : is_first (Net (before_of r) a) ≡ is_first r
-  front_first = go r n
-    where
-      go : (r : Record) → is_net r ≡ true → is_first (Net (before_of r) a) ≡ is_first r
-      go Free e = absurd (false≢true e)
-      go Barred e = absurd (false≢true e)
-      go (Net None c) e = refl
-      go (Net (Some b) c) e = refl
-
-  back_net : is_net (Net a (after_of r)) ≡ is_net r
-  back_net = sym n
-
-  back_barred : is_barred (Net a (after_of r)) ≡ is_barred r
-  back_barred = go r n
-    where
-      go : (r : Record) → is_net r ≡ true → is_barred (Net a (after_of r)) ≡ is_barred r
-      go Free e = refl
-      go Barred e = absurd (false≢true e)
-      go (Net b c) e = refl
-
-  back_last : is_last (Net a (after_of r)) ≡ is_last r
-  back_last = go r n
-    where
-      go : (r : Record) → is_net r ≡ true → is_last (Net a (after_of r)) ≡ is_last r
-      go Free e = absurd (false≢true e)
-      go Barred e = absurd (false≢true e)
-      go (Net b None) e = refl
-      go (Net b (Some c)) e = refl
+last_kept : (r : Record) (b : Option ℕ) → is_net r ≡ true → is_last (Net b (after_of r)) ≡ is_last r
+last_kept Free b e = absurd (false≢true e)
+last_kept Barred b e = absurd (false≢true e)
+last_kept (Net c None) b e = refl
+last_kept (Net c (Some a)) b e = refl
 
 -- e is d, but that a comes after u and b before s
 pub record Relinked (d e : List Record) (u s : ℕ) (a b : Option ℕ) : Type 0 where
@@ -92,19 +63,19 @@ relinked d u s a b nu ns =
     let f = with_before e s b in
     let iu = net_inside d u nu in
     let ru = Net (before_at d u) a in
-    let nets_e = λ (x : ℕ). kept_answer is_net d u x ru iu (front_net (record_at d u) a nu) in
+    let nets_e = λ (x : ℕ). kept_answer is_net d u x ru iu (sym nu) in
     let ne : net_at e s ≡ true = nets_e s ∙ ns in
     let is = net_inside e s ne in
     let rs = Net b (after_at e s) in
     let afters_f = λ (x : ℕ). kept_answer after_of e s x rs is refl in
-    let lasts_f = λ (x : ℕ). kept_answer is_last e s x rs is (back_last (record_at e s) b ne) in
+    let lasts_f = λ (x : ℕ). kept_answer is_last e s x rs is (last_kept (record_at e s) b ne) in
     record {
       long = length-set e s rs ∙ length-set d u ru;
-      nets = λ x. kept_answer is_net e s x rs is (back_net (record_at e s) b ne) ∙ nets_e x;
-      barred = λ x. kept_answer is_barred e s x rs is (back_barred (record_at e s) b ne) ∙
-          kept_answer is_barred d u x ru iu (front_barred (record_at d u) a nu);
+      nets = λ x. kept_answer is_net e s x rs is (sym ne) ∙ nets_e x;
+      barred = λ x. kept_answer is_barred e s x rs is (sym (net_unbarred (record_at e s) ne)) ∙
+          kept_answer is_barred d u x ru iu (sym (net_unbarred (record_at d u) nu));
       befores = λ x n. ap before_of (set_other e s x rs n) ∙ kept_answer before_of d u x ru iu refl;
-      firsts = λ x n. ap is_first (set_other e s x rs n) ∙ kept_answer is_first d u x ru iu (front_first (record_at d u) a nu);
+      firsts = λ x n. ap is_first (set_other e s x rs n) ∙ kept_answer is_first d u x ru iu (first_kept (record_at d u) a nu);
       afters = λ x n. afters_f x ∙ ap after_of (set_other d u x ru n);
       lasts = λ x n. lasts_f x ∙ ap is_last (set_other d u x ru n);
       before_is = ap before_of (set_here e s rs is);

@@ -6,31 +6,24 @@ ghost use Rattle.drawings.specs.Outcomes.{Frees};
 ghost use Rattle.rewiring.specs.Marks.{marked, MarksReached, is_stray, strays, Swept};
 
 use boards::board::Board;
-use records::record::{Record, put, record_at};
+use records::record::{Record, record_at};
 
-// Takes every mark away.
-fn unmark(marks: &mut [u16])
-    ensures { (k : ℕ) → slice_index marks.new k ≡ 0 }
-{
-    for mark in marks.iter_mut() {
-        *mark = 0;
-    }
-}
-
-// Marks a cell; past the last mark nothing is written.
+// Marks a cell; past the last mark nothing is written. The marks are numbers, 1 for a mark and 0 for none, since they lie in the
+// work memory that the caller lends.
 fn mark(marks: &mut [u16], cell: u16)
     ensures { marks.new ≡ slice_set marks.old cell 1 }
 {
+    // By index, since after a write through `get_mut` nothing is known of the slice but its length.
     if (cell as usize) < marks.len() {
         marks[cell as usize] = 1;
     }
 }
 
 // Whether a cell has a mark.
-fn is_marked(marks: &[u16], cell: u16) -> bool
+fn is_marked(marks: &[u16], cell: usize) -> bool
     ensures { result ≡ (slice_index marks.now cell == 1) }
 {
-    (cell as usize) < marks.len() && marks[cell as usize] == 1
+    marks.get(cell) == Some(&1)
 }
 
 // Marks the cells from a cell to the end of its net.
@@ -38,12 +31,11 @@ fn mark_net(drawing: &[Record], first: u16, marks: &mut [u16])
     requires { Runs drawing.now first (net drawing.now first) }
     ensures { marks.new ≡ marked (net drawing.now first) marks.old }
 {
-    let mut cell = first;
-    while let Some(next) = record_at(drawing, cell).after() {
+    let mut next = Some(first);
+    while let Some(cell) = next {
         mark(marks, cell);
-        cell = next;
+        next = record_at(drawing, cell).after();
     }
-    mark(marks, cell);
 }
 
 // Marks the cells that are reached by following a net from its first cell, where none was marked.
@@ -61,21 +53,13 @@ fn mark_nets<B: Board>(board: &B, drawing: &[Record], marks: &mut [u16])
     }
 }
 
-// Whether a cell is on a net and has no mark.
-fn is_stray(drawing: &[Record], marks: &[u16], cell: u16) -> bool
-    ensures { result ≡ is_stray drawing.now marks.now cell }
-{
-    record_at(drawing, cell).is_net() && !is_marked(marks, cell)
-}
-
 // Frees the net cells without a mark.
-fn free_strays<B: Board>(board: &B, drawing: &mut [Record], marks: &[u16])
-    requires { length drawing.old ≡ (B.meaning board.now).cells }
+fn free_strays(drawing: &mut [Record], marks: &[u16])
     ensures { Frees (strays drawing.old marks.now) drawing.old drawing.new }
 {
-    for cell in 0..board.cells() {
-        if is_stray(drawing, marks, cell) {
-            put(drawing, cell, Record::Free);
+    for (cell, record) in drawing.iter_mut().enumerate() {
+        if record.is_net() && !is_marked(marks, cell) {
+            *record = Record::Free;
         }
     }
 }
@@ -87,7 +71,7 @@ pub fn sweep<B: Board>(board: &B, drawing: &mut [Record], marks: &mut [u16])
     requires room { length drawing.old ≤ length marks.old }
     ensures { Swept (B.meaning board.now) drawing.old drawing.new }
 {
-    unmark(marks);
+    marks.fill(0);
     mark_nets(board, drawing, marks);
-    free_strays(board, drawing, marks);
+    free_strays(drawing, marks);
 }

@@ -36,12 +36,17 @@ fn wire_moves(rt: HostRuntime) {
         Record::Free,
     ];
     follow_back(&mut drawing, &[4, 2, 1, 5]);
-    assert_eq!(rt; drawing[0], first(5));
-    assert_eq!(rt; drawing[1], Record::Free);
-    assert_eq!(rt; drawing[2], between(4, 3));
-    assert_eq!(rt; drawing[3], last(2));
-    assert_eq!(rt; drawing[4], first(2));
-    assert_eq!(rt; drawing[5], last(0));
+    assert_eq!(rt;
+        drawing,
+        [
+            first(5),
+            Record::Free,
+            between(4, 3),
+            last(2),
+            first(2),
+            last(0),
+        ]
+    );
 }
 
 // The net 0 to 4 passes beside itself: 2 leads to 1 too. The pad 5 comes in at 3, and 1 and 2 are left as a ring.
@@ -57,11 +62,16 @@ fn ring_is_left(rt: HostRuntime) {
         Record::Free,
     ];
     follow_back(&mut drawing, &[5, 3, 1, 6]);
-    assert_eq!(rt; drawing[0], first(6));
-    assert_eq!(rt; drawing[1], between(2, 2));
-    assert_eq!(rt; drawing[2], between(1, 1));
-    assert_eq!(rt; drawing[3], between(5, 4));
-    assert_eq!(rt; drawing[4], last(3));
-    assert_eq!(rt; drawing[5], first(3));
-    assert_eq!(rt; drawing[6], last(0));
+    assert_eq!(rt;
+        drawing,
+        [
+            first(6),
+            between(2, 2),
+            between(1, 1),
+            between(5, 4),
+            last(3),
+            first(3),
+            last(0),
+        ]
+    );
 }

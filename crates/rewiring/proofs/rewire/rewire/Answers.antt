@@ -1,23 +1,12 @@
-use Rattle.std.proofs.Common.{ℕ, List, ◌∷◌, sym, ◌∙◌, subst, arith}
+use Rattle.std.proofs.Common.{ℕ, List, ◌∷◌, sym, ◌∙◌, subst}
 use Rattle.linkages.specs.Lists.{Same}
 use Rattle.drawings.specs.Nets.{wired, used}
-use Rattle.rewiring.proofs.Courses.{some_cells}
 use Rattle.rewiring.proofs.rewire.rewire.Goals as goal
 
-pub follow_back-requires : goal.follow_back-requires
-follow_back-requires g c =
+pub sweep-requires-clause-local : goal.sweep-requires-clause-local
+sweep-requires-clause-local g c =
     let t = c.requires.trail in
-    some_cells (g.B.Board.meaning c.args.board.now) c.args.drawing.now t.0 t.1.0 c.args.trail.now t.1.1
-
-pub sweep-requires : goal.sweep-requires
-sweep-requires g c =
-    let t = c.requires.trail in
-    let O = c.follow_back.ensures (g.B.Board.meaning c.args.board.now) t.0 t.1.0 c.requires.lawful t.1.1 in
-    record {
-      long = O.long ∙ c.requires.lawful.one_each;
-      local = O.local;
-      room = omega (arith, O.long, c.requires.lawful.one_each, c.requires.room);
-    }
+    (c.follow_back.ensures (g.B.Board.meaning c.args.board.now) t.0 t.1.0 c.requires.lawful t.1.1).local
 
 pub returns : goal.returns
 returns g c p z t =

@@ -6,4 +6,4 @@ use Rattle.rewiring.proofs.sweep.free_strays.Given as goal
 
 -- the strays below the cell are freed
 abbrev pub invariant-loop-cell : goal.invariant-loop-cell
-invariant-loop-cell g l = Frees (filter (is_stray l.initial.drawing l.marks) (range_with_len 0 l.cell)) l.initial.drawing l.drawing
+invariant-loop-cell l = Frees (filter (is_stray l.initial.drawing l.marks) (range_with_len 0 l.cell)) l.initial.drawing l.drawing

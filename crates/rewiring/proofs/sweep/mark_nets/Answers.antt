@@ -1,13 +1,9 @@
 use Rattle.std.proofs.Common.{◌≡◌, ℕ, ◌+◌, List, length, sym, ap, ◌∙◌, subst, arith}
 use Rattle.records.specs.Records.{is_first}
 use Rattle.drawings.proofs.Follow.{net_runs}
-use Rattle.rewiring.proofs.Marking.{MarkedBelow, none_marked, mark_first, mark_other, all_marked}
+use Rattle.rewiring.proofs.Marking.{MarkedBelow, mark_first, mark_other, all_marked}
 use Rattle.rewiring.proofs.sweep.mark_nets.Goals as goal
 use Rattle.rewiring.proofs.sweep.mark_nets.Goals.{then-is_first, else-is_first}
-
-pub loop-cell-init : goal.loop-cell-init
-loop-cell-init g c =
-    none_marked (g.B.Board.meaning c.args.board.now) c.args.drawing.now c.requires.local c.args.marks.now c.requires.room c.requires.clean
 
 pub mark_net-requires : goal.mark_net-requires
 mark_net-requires g c =

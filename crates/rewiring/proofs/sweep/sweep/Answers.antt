@@ -3,5 +3,5 @@ use Rattle.rewiring.proofs.sweep.sweep.Goals as goal
 
 pub returns : goal.returns
 returns g c =
-    swept (g.B.Board.meaning c.args.board.now) c.args.drawing.now c.requires.local c.mark_nets.new.marks c.mark_nets.ensures
-    c.free_strays.new.drawing c.free_strays.ensures c.requires.long
+    swept c.args.drawing.now c.mark_nets.new.marks c.mark_nets.ensures (g.B.Board.meaning c.args.board.now) c.free_strays.new.drawing
+    c.requires.local c.free_strays.ensures c.requires.long
