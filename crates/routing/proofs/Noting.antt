@@ -1,6 +1,6 @@
 -- What a search notes stays true as it enters one cell more.
-use Rattle.std.proofs.Common.{◌≡◌, ℕ, ◌+◌, ◌<◌, ◌≤◌, true, false, ◌||◌, eqb, List, ◌∷◌, length, get_or, take, set, sym, refl, ap, ◌∙◌, subst, ⊎_elim, arith, below_more}
-use Rattle.std.proofs.lemmas.List.{get_or_past, get_or-set_same, get_or-set_other, length-set, get_or-take, length-take-le}
+use Rattle.std.proofs.Common.{◌≡◌, ℕ, ◌+◌, ◌<◌, ◌≤◌, true, false, ◌||◌, eqb, List, ◌∷◌, length, get_or, take, set, replicate, sym, refl, ap, ◌∙◌, subst, ⊎_elim, arith, below_more}
+use Rattle.std.proofs.lemmas.List.{get_or_past, get_or-replicate, length-replicate, get_or-set_same, get_or-set_other, length-set, get_or-take, length-take-le}
 use Rattle.std.proofs.lemmas.Bool.{both_ways, cases_lt, cases_eq, cases_Bool, eqb-true, eq-eqb, or_parts, or_from, cond_both, cond-false}
 use Rattle.boards.specs.Meaning.{Meaning}
 use Rattle.linkages.specs.Lists.{Mem, Distinct}
@@ -12,11 +12,13 @@ use Rattle.drawings.proofs.Cells.{length_below}
 use Rattle.rewiring.specs.Trails.{Enters}
 use Rattle.routing.specs.Searches.{Notes, notes, was_entered, cell_at, from_at, open_at, entered_also, visited, Searching, NoneOpen, Closed}
 
-pub same_notes : {E E' Q Q' F F' : List ℕ} {k k' : ℕ} → E ≡ E' → Q ≡ Q' → F ≡ F' → k ≡ k' → notes E Q F k ≡ notes E' Q' F' k'
-same_notes {E} {E'} {Q} {Q'} {F} {F'} {k} {k'} e q f n =
-    ap (λ x. notes x Q F k) e ∙ (ap (λ x. notes E' x F k) q ∙ (ap (λ x. notes E' Q' x k) f ∙ ap (notes E' Q' F') n))
-
 -- ---- marks
+
+pub zero_at : (n c : ℕ) → ◌≡◌ {A = ℕ} (get_or (replicate n 0) c 0) 0
+zero_at n c = ⊎_elim
+    (λ h. get_or-replicate n c 0 0 h)
+    (λ h. get_or_past (replicate n 0) c 0 (omega (arith, length-replicate {A = ℕ} n 0)))
+    (cases_lt c n)
 
 pub entered_inside : (xs : List ℕ) (c : ℕ) → was_entered xs c ≡ true → c < length xs
 entered_inside xs c e = ⊎_elim

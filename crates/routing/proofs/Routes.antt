@@ -1,7 +1,7 @@
 -- How the search for a way for a pad ends.
-use Rattle.std.proofs.Common.{◌≡◌, ℕ, ◌-◌, ◌<◌, true, false, List, ◌∷◌, ◌++◌, length, get_or, take, drop, replicate, sym, subst, ⊎_elim, arith}
-use Rattle.std.proofs.lemmas.List.{get_or_past, get_or-replicate, length-replicate, take_rest}
-use Rattle.std.proofs.lemmas.Bool.{both_ways, cases_lt, and_parts}
+use Rattle.std.proofs.Common.{◌≡◌, ℕ, ◌-◌, ◌<◌, true, false, List, ◌∷◌, ◌++◌, length, Some, take, drop, sym, subst, arith}
+use Rattle.std.proofs.lemmas.List.{take_rest}
+use Rattle.std.proofs.lemmas.Bool.{both_ways, and_parts}
 use Rattle.boards.specs.Meaning.{Meaning, Bounded, pad_at, landing_at}
 use Rattle.linkages.specs.Lists.{Mem}
 use Rattle.linkages.specs.Fences.{Fence}
@@ -15,7 +15,7 @@ use Rattle.drawings.specs.Lawful.{Lawful}
 use Rattle.drawings.proofs.Cells.{kept_below}
 use Rattle.drawings.proofs.Linking.{linked}
 use Rattle.rewiring.specs.Trails.{Trail, Rewired}
-use Rattle.routing.specs.Searches.{Notes, was_entered, Came}
+use Rattle.routing.specs.Searches.{Notes, was_entered, Ended}
 use Rattle.routing.specs.Courses.{Course}
 use Rattle.routing.specs.Showing.{shows_pad, shows_cell, shown_pads, shown_cells}
 use Rattle.routing.specs.Outcomes.{FenceShown, WiredAlso}
@@ -23,20 +23,14 @@ use Rattle.routing.proofs.Exits.{unbarred_from}
 use Rattle.routing.proofs.Trailing.{course_trail}
 use Rattle.routing.proofs.Shown.{shows, rising_below}
 
-pub zero_at : (n c : ℕ) → ◌≡◌ {A = ℕ} (get_or (replicate n 0) c 0) 0
-zero_at n c = ⊎_elim
-    (λ h. get_or-replicate n c 0 0 h)
-    (λ h. get_or_past (replicate n 0) c 0 (omega (arith, length-replicate {A = ℕ} n 0)))
-    (cases_lt c n)
-
 module _ (m : Meaning) (d : List Record) (p : ℕ) (pad : pad_at m p ≡ true) (unwired : first_at d p ≡ false) where
   -- the course that a search wrote to the end of a list is a trail
-  pub written_trail : (s : Notes) (z : ℕ) (ts : List ℕ) (i : ℕ) → Came m d p s z → Course s.queue s.from (s.count - 1) 0 (drop i ts) →
+  pub written_trail : (s : Notes) (z k : ℕ) (ts : List ℕ) (i : ℕ) → Ended m d p s (Some z) → k ≡ s.count - 1 → Course s.queue s.from k 0 (drop i ts) →
       Trail m d p z (take (length ts - i) (drop i ts))
-  written_trail s z ts i T C =
-      let e : s.count - 1 ≡ T.last = omega (arith, T.count) in
+  written_trail s z k ts i T e C =
+      let same : k ≡ T.last = omega (arith, T.count) in
       subst (Trail m d p z) (sym (take_rest ts i))
-      (course_trail m d p s z (drop i ts) T pad unwired (subst (λ k. Course s.queue s.from k 0 (drop i ts)) e C))
+      (course_trail m d p s z (drop i ts) T pad unwired (subst (λ n. Course s.queue s.from n 0 (drop i ts)) same C))
 
   -- the landing of a trail is not used
   pub wired_also : (e : List Record) (z : ℕ) (ts : List ℕ) → Trail m d p z ts → Rewired m d e p z → WiredAlso m d e p z

@@ -1,6 +1,6 @@
 -- A search from its first cell to its end.
-use Rattle.std.proofs.Common.{◌≡◌, ℕ, zero, suc, ◌+◌, ◌<◌, ◌≤◌, true, false, List, length, get_or, Some, None, sym, refl, ap, ◌∙◌, subst, ⊎_elim, not-suc-le-zero, arith}
-use Rattle.std.proofs.lemmas.List.{get_or-set_same}
+use Rattle.std.proofs.Common.{◌≡◌, ℕ, zero, suc, ◌+◌, ◌<◌, ◌≤◌, true, false, List, length, replicate, Some, None, sym, ap, ◌∙◌, subst, ⊎_elim, not-suc-le-zero, arith}
+use Rattle.std.proofs.lemmas.List.{get_or-set_same, length-replicate}
 use Rattle.std.proofs.lemmas.Bool.{both_ways, cases_lt, cases_eq}
 use Rattle.boards.specs.Meaning.{Meaning, Bounded, outlets_of, outlet_at, landing_at}
 use Rattle.linkages.specs.Lists.{Mem}
@@ -13,7 +13,7 @@ use Rattle.drawings.specs.Lawful.{Lawful}
 use Rattle.drawings.proofs.Outlets.{outlet_mem, mem_outlet}
 use Rattle.drawings.proofs.Said.{none_not_some, some_same}
 use Rattle.rewiring.specs.Trails.{exit_of, Enters, back, onward as goes-onward}
-use Rattle.routing.specs.Searches.{Notes, notes, was_entered, cell_at, from_at, open_at, entered_also, visited, Searching, Waiting, Scanning, Came}
+use Rattle.routing.specs.Searches.{Notes, notes, was_entered, cell_at, from_at, open_at, entered_also, visited, Spans, Searching, Waiting, Scanning, Came}
 use Rattle.routing.proofs.Noting as note
 use Rattle.routing.proofs.Exits as exits
 
@@ -33,26 +33,28 @@ module _ (m : Meaning) (B : Bounded m) (d : List Record) (W : Lawful m d) (p : �
 
   -- ---- the first cell
 
-  module _ (E Q F : List ℕ) (le : length E ≡ length d) (lq : length Q ≡ length d) (lf : length F ≡ length d)
-      (none : (c : ℕ) → get_or E c 0 ≡ 0) (l : p < length d) (free : barred_at d p ≡ false) where
-    first_cell : cell_at (entered_also (notes E Q F 0) 0 p) 0 ≡ p
-    first_cell = get_or-set_same Q 0 p 0 (omega arith)
+  module _ (was s : Notes) (long : Spans m.cells was) (l : p < m.cells) (free : barred_at d p ≡ false)
+      (same : s ≡ entered_also (notes (replicate (length was.entered) 0) was.queue was.from 0) 0 p) where
+    begun : Searching m d p s
+    begun = subst (Searching m d p) (sym same)
+        (note.begin_searching m d p (replicate (length was.entered) 0) was.queue was.from (simp length-replicate (omega (arith, long.entered_long, W.one_each)))
+        (long.queue_long ∙ sym W.one_each) (long.from_long ∙ sym W.one_each) (note.zero_at (length was.entered)) (omega (arith, W.one_each)) free)
 
-    pub begins : open_at m d p ≡ false → Waiting m d p (entered_also (notes E Q F 0) 0 p) 0
+    pub begins : open_at m d p ≡ false → Waiting m d p s 0
     begins shut = record {
-      searching = note.begin_searching m d p E Q F le lq lf none l free;
-      none_open = λ i h. let z : 0 ≡ i = omega arith in
-          subst (λ v. open_at m d (cell_at (entered_also (notes E Q F 0) 0 p) v) ≡ false) z (ap (open_at m d) first_cell ∙ shut);
+      searching = begun;
+      none_open = λ i h. let z : 0 ≡ i = omega (arith, ap (λ t. t.count) same) in
+          subst (λ v. open_at m d (cell_at s v) ≡ false) z (ap (open_at m d) begun.starts ∙ shut);
       closed = λ i h. absurd (not-suc-le-zero h);
       inside = omega arith;
     }
 
-    pub came_at_once : open_at m d p ≡ true → Came m d p (entered_also (notes E Q F 0) 0 p) p
+    pub came_at_once : open_at m d p ≡ true → Came m d p s p
     came_at_once o = record {
-      searching = note.begin_searching m d p E Q F le lq lf none l free;
+      searching = begun;
       last = 0;
-      count = refl;
-      lands = first_cell;
+      count = ap (λ t. t.count) same;
+      lands = begun.starts;
       lies_open = o;
       none_before = λ i h. absurd (not-suc-le-zero h);
     }

@@ -19,6 +19,12 @@ pub record Notes : Type 0 where
 abbrev pub notes : List ℕ → List ℕ → List ℕ → ℕ → Notes
 notes entered queue from count = record { entered = entered; queue = queue; from = from; count = count }
 
+-- each of the three has room for n cells
+pub record Spans (n : ℕ) (s : Notes) : Type 0 where
+  pub entered_long : length s.entered ≡ n
+  pub queue_long : length s.queue ≡ n
+  pub from_long : length s.from ≡ n
+
 abbrev pub was_entered : List ℕ → ℕ → Bool
 was_entered entered c = slice_index entered c == 1
 

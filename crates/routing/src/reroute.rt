@@ -5,9 +5,11 @@ ghost use Rattle.linkages.specs.Lists.{Mem};
 ghost use Rattle.drawings.specs.Nets.{net_at, first_at, net, Runs};
 ghost use Rattle.drawings.specs.Changes.{freed, written};
 ghost use Rattle.drawings.specs.Lawful.{Lawful};
+ghost use Rattle.routing.specs.Searches.{Spans};
 ghost use Rattle.routing.specs.Outcomes.{Rerouted};
 
 use crate::route::route;
+use crate::search::Visits;
 use boards::board::Board;
 use drawings::nets::{lay, list_net, take_up};
 use records::record::{Record, put, record_at};
@@ -35,10 +37,7 @@ fn shut(drawing: &mut [Record], pad: u16, cell: u16, saved: &mut [u16]) -> usize
     ensures saves { saved.new ≡ written (net drawing.old pad) saved.old }
     ensures bars { drawing.new ≡ slice_set (freed (net drawing.old pad) drawing.old) cell Record.Barred }
 {
-    let count = match list_net(drawing, pad, saved) {
-        Some(count) => count,
-        None => 0,
-    };
+    let count = list_net(drawing, pad, saved).unwrap_or(0);
     let _ = take_up(drawing, pad);
     put(drawing, cell, Record::Barred);
     count
@@ -46,22 +45,18 @@ fn shut(drawing: &mut [Record], pad: u16, cell: u16, saved: &mut [u16]) -> usize
 
 // Bars a cell on the net of a wired pad, other than the pad, and finds another way for the pad, moving wires as need be.
 // Where there is no way it writes the fence to report memory and gives back its pads and cells by number; the drawing is as
-// before. Each of the four parts of work memory has one number for each cell.
+// before.
 pub fn reroute<B: Board>(
     board: &B,
     drawing: &mut [Record],
-    entered: &mut [u16],
-    queue: &mut [u16],
-    from: &mut [u16],
+    visits: &mut Visits<'_>,
     spare: &mut [u16],
     report: &mut [u16],
     pad: u16,
     cell: u16,
 ) -> Result<u16, (u16, u16)>
     requires lawful { Lawful (B.meaning board.now) drawing.old }
-    requires entered_long { length entered.old ≡ (B.meaning board.now).cells }
-    requires queue_long { length queue.old ≡ (B.meaning board.now).cells }
-    requires from_long { length from.old ≡ (B.meaning board.now).cells }
+    requires visits_long { Spans (B.meaning board.now).cells visits.old }
     requires spare_long { length spare.old ≡ (B.meaning board.now).cells }
     requires report_long { 2 * (B.meaning board.now).cells ≤ length report.old }
     requires wired { first_at drawing.old pad ≡ true }
@@ -70,13 +65,11 @@ pub fn reroute<B: Board>(
     ensures { Rerouted (B.meaning board.now) drawing.old drawing.new cell report.old report.new result }
 {
     let count = shut(drawing, pad, cell, spare);
-    match route(board, drawing, entered, queue, from, spare, report, pad) {
-        Ok(landing) => Ok(landing),
-        Err(counts) => {
-            lay(drawing, &spare[0..count]);
-            Err(counts)
-        }
+    let found = route(board, drawing, visits, spare, report, pad);
+    if found.is_err() {
+        lay(drawing, &spare[0..count]);
     }
+    found
 }
 
 // The same with work memory in one piece, four numbers for each cell, for a cell on any net.
@@ -95,11 +88,6 @@ pub fn reroute_within<B: Board>(
     ensures { Rerouted (B.meaning board.now) drawing.old drawing.new cell report.old report.new result }
 {
     let pad = first_of(drawing, cell);
-    let cells = board.cells() as usize;
-    let (entered, rest) = work.split_at_mut(cells);
-    let (queue, rest) = rest.split_at_mut(cells);
-    let (from, spare) = rest.split_at_mut(cells);
-    reroute(
-        board, drawing, entered, queue, from, spare, report, pad, cell,
-    )
+    let (mut visits, spare) = Visits::cut(work, board.cells() as usize);
+    reroute(board, drawing, &mut visits, spare, report, pad, cell)
 }

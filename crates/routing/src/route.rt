@@ -3,10 +3,11 @@ ghost use Rattle.std.specs.Prelude.{◌≡◌, ◌*◌, ◌≤◌, true, false, 
 ghost use Rattle.boards.specs.Meaning.{pad_at};
 ghost use Rattle.drawings.specs.Nets.{first_at, barred_at};
 ghost use Rattle.drawings.specs.Lawful.{Lawful};
+ghost use Rattle.routing.specs.Searches.{Spans};
 ghost use Rattle.routing.specs.Outcomes.{Routed};
 
 use crate::fence::write_fence;
-use crate::search::search;
+use crate::search::{Visits, search};
 use crate::trace::trace;
 use boards::board::Board;
 use records::record::Record;
@@ -16,28 +17,22 @@ use rewiring::rewire::rewire;
 pub fn zero(numbers: &mut [u16])
     ensures { numbers.new ≡ replicate (length numbers.old) 0 }
 {
-    for number in numbers.iter_mut() {
-        *number = 0;
-    }
+    numbers.fill(0);
 }
 
 // Wires an unwired and unbarred pad of a lawful drawing, moving wires as need be, and gives back the landing that is used then.
 // Where there is no way it writes the fence to report memory and gives back its pads and cells by number; the drawing and the
-// spare numbers are as before. Each of the four parts of work memory has one number for each cell.
+// spare numbers are as before.
 pub fn route<B: Board>(
     board: &B,
     drawing: &mut [Record],
-    entered: &mut [u16],
-    queue: &mut [u16],
-    from: &mut [u16],
+    visits: &mut Visits<'_>,
     spare: &mut [u16],
     report: &mut [u16],
     pad: u16,
 ) -> Result<u16, (u16, u16)>
     requires lawful { Lawful (B.meaning board.now) drawing.old }
-    requires entered_long { length entered.old ≡ (B.meaning board.now).cells }
-    requires queue_long { length queue.old ≡ (B.meaning board.now).cells }
-    requires from_long { length from.old ≡ (B.meaning board.now).cells }
+    requires visits_long { Spans (B.meaning board.now).cells visits.old }
     requires spare_long { length spare.old ≡ (B.meaning board.now).cells }
     requires report_long { 2 * (B.meaning board.now).cells ≤ length report.old }
     requires is_pad { pad_at (B.meaning board.now) pad ≡ true }
@@ -46,16 +41,15 @@ pub fn route<B: Board>(
     ensures routed { Routed (B.meaning board.now) drawing.old drawing.new pad report.old report.new result }
     ensures spared { OnErr result (spare.new ≡ spare.old) }
 {
-    zero(entered);
-    let (found, count) = search(board, drawing, entered, queue, from, pad);
-    match found {
+    match search(board, drawing, visits, pad) {
         Some(landing) => {
-            let first = trace(queue, from, count - 1, spare);
+            let last = visits.count - 1;
+            let first = trace(visits, last, spare);
             let end = spare.len();
-            rewire(board, drawing, &spare[first..end], entered);
+            rewire(board, drawing, &spare[first..end], visits.entered);
             Ok(landing)
         }
-        None => Err(write_fence(drawing, entered, pad, report)),
+        None => Err(write_fence(drawing, visits.marks(), pad, report)),
     }
 }
 
@@ -75,9 +69,6 @@ pub fn route_within<B: Board>(
     requires unbarred { barred_at drawing.old pad ≡ false }
     ensures { Routed (B.meaning board.now) drawing.old drawing.new pad report.old report.new result }
 {
-    let cells = board.cells() as usize;
-    let (entered, rest) = work.split_at_mut(cells);
-    let (queue, rest) = rest.split_at_mut(cells);
-    let (from, spare) = rest.split_at_mut(cells);
-    route(board, drawing, entered, queue, from, spare, report, pad)
+    let (mut visits, spare) = Visits::cut(work, board.cells() as usize);
+    route(board, drawing, &mut visits, spare, report, pad)
 }

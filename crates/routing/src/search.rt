@@ -3,16 +3,103 @@
 // A search enters cells. From a cell on no net it goes on to the cell's outlets. To enter a cell on a net is to take over the
 // net from there to its landing, so the search goes on from the cell before it, to which it may also go back; from the first
 // cell of a net it goes nowhere. It ends as soon as it enters a landing that is neither barred nor on a net.
-ghost use Rattle.std.specs.Prelude.{◌≡◌, ℕ, ◌+◌, ◌<◌, ◌≤◌, true, false, length, slice_index};
-ghost use Rattle.boards.specs.Meaning.{landing_at};
+ghost use Rattle.std.specs.Prelude.{◌≡◌, ◌+◌, ◌*◌, ◌<◌, ◌≤◌, false, length, replicate};
 ghost use Rattle.records.specs.Records.{record_at};
 ghost use Rattle.drawings.specs.Nets.{barred_at};
 ghost use Rattle.drawings.specs.Lawful.{Lawful};
 ghost use Rattle.rewiring.specs.Trails.{exit_of};
-ghost use Rattle.routing.specs.Searches.{notes, was_entered, open_at, entered_also, visited, Ended};
+ghost use Rattle.routing.specs.Searches.{notes, was_entered, open_at, entered_also, visited, Spans, Ended};
 
+use crate::route::zero;
 use boards::board::Board;
 use records::record::{Record, record_at};
+use std::marker::Model;
+
+// What a search remembers, in memory that is lent to it: a mark for each cell that it entered, the queue of these cells, for each
+// place of the queue the place of the cell that it was entered from, and how many cells there are. A clause sees the notes.
+#[derive(Drop)]
+pub struct Visits<'a> {
+    pub(crate) entered: &'a mut [u16],
+    pub(crate) queue: &'a mut [u16],
+    pub(crate) from: &'a mut [u16],
+    pub(crate) count: u16,
+}
+
+impl<'a> Model for Visits<'a> {
+    ghost use Rattle.routing.specs.Searches.{Notes, notes};
+
+    ghost Value = { Notes };
+
+    ghost view = { λ v. notes v.entered.now v.queue.now v.from.now v.count };
+}
+
+impl<'a> Visits<'a> {
+    // Memory in three pieces, with no cell in the queue.
+    pub fn new(entered: &'a mut [u16], queue: &'a mut [u16], from: &'a mut [u16]) -> Visits<'a>
+        ensures { result ≡ notes entered.old queue.old from.old 0 }
+    {
+        Visits {
+            entered,
+            queue,
+            from,
+            count: 0,
+        }
+    }
+
+    // Cuts work memory of four numbers for each cell: three are for the search, and the last part is to spare.
+    pub(crate) fn cut(work: &'a mut [u16], cells: usize) -> (Visits<'a>, &'a mut [u16])
+        requires { length work.old ≡ 4 * cells }
+        ensures visits_long { Spans cells result.0 }
+        ensures spare_long { length result.1.now ≡ cells }
+    {
+        let (entered, rest) = work.split_at_mut(cells);
+        let (queue, rest) = rest.split_at_mut(cells);
+        let (from, spare) = rest.split_at_mut(cells);
+        (Visits::new(entered, queue, from), spare)
+    }
+
+    // The marks of the cells that were entered.
+    pub(crate) fn marks(&self) -> &[u16]
+        ensures { result.now ≡ self.now.entered }
+    {
+        self.entered
+    }
+
+    // Forgets every cell.
+    fn clear(&mut self)
+        ensures { self.new ≡ notes (replicate (length self.old.entered) 0) self.old.queue self.old.from 0 }
+    {
+        zero(self.entered);
+        self.count = 0;
+    }
+
+    // Notes a cell as entered from the cell at place `at`: it comes to the end of the queue.
+    fn enter(&mut self, at: u16, cell: u16)
+        requires inside { cell < length self.old.entered }
+        requires queue_room { self.old.count < length self.old.queue }
+        requires from_room { self.old.count < length self.old.from }
+        requires few { self.old.count < 4096 }
+        ensures { self.new ≡ entered_also self.old at cell }
+    {
+        self.entered[cell as usize] = 1;
+        self.queue[self.count as usize] = cell;
+        self.from[self.count as usize] = at;
+        self.count += 1;
+    }
+
+    // Enters a cell from the cell at place `at` of the queue, unless it is barred or was entered before.
+    fn visit(&mut self, drawing: &[Record], at: u16, cell: u16)
+        requires inside { cell < length self.old.entered }
+        requires alike { length self.old.from ≡ length self.old.queue }
+        requires few { length self.old.queue ≤ 4096 }
+        requires room { was_entered self.old.entered cell ≡ false → self.old.count < length self.old.queue }
+        ensures { self.new ≡ visited drawing.now self.old at cell }
+    {
+        if !record_at(drawing, cell).is_barred() && self.entered[cell as usize] != 1 {
+            self.enter(at, cell);
+        }
+    }
+}
 
 // Where a search that has entered a cell goes on from.
 fn exit_of(drawing: &[Record], cell: u16) -> Option<u16>
@@ -29,98 +116,40 @@ fn exit_of(drawing: &[Record], cell: u16) -> Option<u16>
 fn is_open<B: Board>(board: &B, drawing: &[Record], cell: u16) -> bool
     ensures { result ≡ open_at (B.meaning board.now) drawing.now cell }
 {
-    match record_at(drawing, cell) {
-        Record::Free => board.is_landing(cell),
-        Record::Barred => false,
-        Record::Net { .. } => false,
-    }
-}
-
-// Notes a cell as entered from the cell at place `at`: it comes to the end of the queue.
-fn enter(
-    entered: &mut [u16],
-    queue: &mut [u16],
-    from: &mut [u16],
-    count: u16,
-    at: u16,
-    cell: u16,
-) -> u16
-    requires inside { cell < length entered.old }
-    requires queue_room { count < length queue.old }
-    requires from_room { count < length from.old }
-    requires few { count < 4096 }
-    ensures { notes entered.new queue.new from.new result
-        ≡ entered_also (notes entered.old queue.old from.old count) at cell }
-{
-    entered[cell as usize] = 1;
-    queue[count as usize] = cell;
-    from[count as usize] = at;
-    count + 1
-}
-
-// Enters a cell from the cell at place `at` of the queue, unless it is barred or was entered before, and gives back how many
-// are entered then.
-fn visit(
-    drawing: &[Record],
-    entered: &mut [u16],
-    queue: &mut [u16],
-    from: &mut [u16],
-    count: u16,
-    at: u16,
-    cell: u16,
-) -> u16
-    requires inside { cell < length entered.old }
-    requires alike { length from.old ≡ length queue.old }
-    requires few { length queue.old ≤ 4096 }
-    requires room { was_entered entered.old cell ≡ false → count < length queue.old }
-    ensures { notes entered.new queue.new from.new result
-        ≡ visited drawing.now (notes entered.old queue.old from.old count) at cell }
-{
-    if record_at(drawing, cell).is_barred() {
-        return count;
-    }
-    if entered[cell as usize] == 1 {
-        return count;
-    }
-    enter(entered, queue, from, count, at, cell)
+    matches!(record_at(drawing, cell), Record::Free) && board.is_landing(cell)
 }
 
 // Searches from a cell that is not barred: enters all that can be entered, until it enters a landing that is neither barred
-// nor on a net. Gives back that landing, or none, and how many cells were entered.
+// nor on a net. Gives back that landing, or none.
 pub fn search<B: Board>(
     board: &B,
     drawing: &[Record],
-    entered: &mut [u16],
-    queue: &mut [u16],
-    from: &mut [u16],
+    visits: &mut Visits<'_>,
     start: u16,
-) -> (Option<u16>, u16)
+) -> Option<u16>
     requires lawful { Lawful (B.meaning board.now) drawing.now }
-    requires none_entered { (c : ℕ) → slice_index entered.old c ≡ 0 }
-    requires entered_long { length entered.old ≡ (B.meaning board.now).cells }
-    requires queue_long { length queue.old ≡ (B.meaning board.now).cells }
-    requires from_long { length from.old ≡ (B.meaning board.now).cells }
+    requires long { Spans (B.meaning board.now).cells visits.old }
     requires inside { start < (B.meaning board.now).cells }
     requires unbarred { barred_at drawing.now start ≡ false }
-    ensures { Ended (B.meaning board.now) drawing.now start
-        (notes entered.new queue.new from.new result.1) result.0 }
+    ensures { Ended (B.meaning board.now) drawing.now start visits.new result }
 {
-    let mut count = enter(entered, queue, from, 0, 0, start);
+    visits.clear();
+    visits.enter(0, start);
     if is_open(board, drawing, start) {
-        return (Some(start), count);
+        return Some(start);
     }
     let mut at = 0;
     'search: loop {
-        if at >= count {
-            break 'search (None, count);
+        if at >= visits.count {
+            break 'search None;
         }
-        if let Some(exit) = exit_of(drawing, queue[at as usize]) {
-            count = visit(drawing, entered, queue, from, count, at, exit);
+        if let Some(exit) = exit_of(drawing, visits.queue[at as usize]) {
+            visits.visit(drawing, at, exit);
             for j in 0..8u8 {
                 if let Some(cell) = board.outlet(exit, j) {
-                    count = visit(drawing, entered, queue, from, count, at, cell);
+                    visits.visit(drawing, at, cell);
                     if is_open(board, drawing, cell) {
-                        break 'search (Some(cell), count);
+                        break 'search Some(cell);
                     }
                 }
             }

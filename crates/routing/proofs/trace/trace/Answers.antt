@@ -1,33 +1,32 @@
-use Rattle.std.proofs.Common.{◌≡◌, ◌+◌, ◌-◌, [], ◌∷◌, length, get_or, drop, set, sym, refl, ap, ◌∙◌, subst, arith}
-use Rattle.std.proofs.lemmas.List.{drop-set, drop_all, length-set}
+use Rattle.std.proofs.Common.{◌≡◌, ◌+◌, ◌-◌, ◌∷◌, get_or, drop, set, sym, ap, ◌∙◌, subst, arith}
+use Rattle.std.proofs.lemmas.List.{drop-set, drop_all}
 use Rattle.routing.specs.Courses.{Course, arrives, comes}
 use Rattle.routing.proofs.trace.trace.Goals as goal
 
-pub loop-place-init : goal.loop-place-init
-loop-place-init c =
-    let xs = c.args.trail.now in
-    let n = length xs - 1 in
-    let x = get_or c.args.queue.now c.args.last 0 in
-    let e : drop n (set xs n x) ≡ x ∷ [] = drop-set xs n x (omega (arith, c.requires.room)) ∙ ap (λ ys. x ∷ ys) (drop_all (n + 1) xs (omega arith)) in (
-      omega (arith, c.requires.room),
-      omega arith,
-      simp length-set (omega (arith, c.requires.room)),
-      subst (Course c.args.queue.now c.args.from.now c.args.last c.args.last) (sym e) arrives,
-    )
+pub loop-first-init : goal.loop-first-init
+loop-first-init c = record {
+  fits = c.requires.room;
+  so_far = omega arith;
+  course = subst (λ xs. Course c.args.visits.now.queue c.args.visits.now.from c.args.last c.args.last (get_or c.args.visits.now.queue c.args.last 0 ∷ xs))
+      (sym (drop_all _ c.args.trail.now (omega arith))) arrives;
+}
 
-pub loop-place-preserved : goal.loop-place-preserved
-loop-place-preserved c =
-    let inv = c.loop-place.invariant in
-    let xs = c.loop-place.trail in
-    let n = c.loop-place.first - 1 in
-    let k = c.loop-place.place in
-    let h = get_or c.args.from.now k 0 in
-    let x = get_or c.args.queue.now h 0 in
-    let less = c.requires.earlier k c.loop-place-test.true inv.1 in
-    let back : n + 1 ≡ c.loop-place.first = omega (arith, inv.0, c.loop-place-test.true) in
-    let e : drop n (set xs n x) ≡ x ∷ drop c.loop-place.first xs = drop-set xs n x (omega (arith, inv.2)) ∙ ap (λ i. x ∷ drop i xs) back in (
-      omega (arith, less, inv.0),
-      omega (arith, less, inv.1),
-      simp length-set (omega (arith, inv.2)),
-      subst (Course c.args.queue.now c.args.from.now c.args.last h) (sym e) (comes c.loop-place-test.true refl inv.3),
-    )
+pub loop-first-preserved : goal.loop-first-preserved
+loop-first-preserved c =
+    let inv = c.loop-first.invariant in
+    let queue = c.args.visits.now.queue in
+    let from = c.args.visits.now.from in
+    let xs = c.loop-first.trail in
+    let n = c.loop-first.first - 1 in
+    let k = c.loop-first.place in
+    let h = get_or c.visits.inside.from.now k 0 in
+    let noted : h ≡ get_or from k 0 = ap (λ s. get_or s.from k 0) c.visits.view_is in
+    let less = c.requires.earlier k (omega arith) inv.so_far in
+    let back : n + 1 ≡ c.loop-first.first = omega (arith, inv.fits) in
+    let e : drop n (set xs n (get_or c.visits.inside.queue.now k 0)) ≡ get_or queue k 0 ∷ drop c.loop-first.first xs =
+    drop-set xs n _ (omega (arith, inv.fits)) ∙ (ap (λ i. get_or c.visits.inside.queue.now k 0 ∷ drop i xs) back ∙ ap (λ s. get_or s.queue k 0 ∷ drop c.loop-first.first xs) c.visits.view_is) in
+    record {
+      fits = omega (arith, less, noted, inv.fits);
+      so_far = omega (arith, less, noted, inv.so_far);
+      course = subst (λ ys. Course queue from c.args.last h (get_or queue h 0 ∷ ys)) (sym e) (comes (omega arith) noted inv.course);
+    }

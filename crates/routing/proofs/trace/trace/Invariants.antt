@@ -1,10 +1,11 @@
-use Rattle.std.proofs.Common.{◌<◌, ◌≤◌, length, drop}
+use Rattle.std.proofs.Common.{◌<◌, ◌≤◌, ◌∷◌, get_or, drop}
 use Rattle.routing.specs.Courses.{Course}
 use Rattle.routing.proofs.trace.trace.Given as goal
 
-abbrev pub invariant-loop-place : goal.invariant-loop-place
-invariant-loop-place l = (l.place ≤ l.first) × (l.place ≤ l.last) × (l.first < length l.trail) ×
-    Course l.queue l.from l.last l.place (drop l.first l.trail)
-
-abbrev pub decreases-loop-place : goal.decreases-loop-place
-decreases-loop-place l = l.place
+-- the cell at the place come to is written next: with it the course is whole from there on
+abbrev pub invariant-loop-first : goal.invariant-loop-first
+invariant-loop-first l = record {
+  fits : l.place < l.first;
+  so_far : l.place ≤ l.last;
+  course : Course l.visits.queue l.visits.from l.last l.place (get_or l.visits.queue l.place 0 ∷ drop l.first l.trail);
+}
