@@ -48,7 +48,7 @@ module _ (m : Meaning) (d e : List Record) (old xs : List Call) (i : ℕ) (r x :
 
   -- its event
   abbrev pub made : Event
-  made = event call.kind call.cell d e (vec_items call.work) (vec_items x.work) (vec_items call.report) (vec_items x.report) P.answer
+  made = event call.order.kind call.order.cell d e (vec_items call.work) (vec_items x.work) (vec_items call.report) (vec_items x.report) P.answer
 
   here : (q : Call) → EventOf made (get_or old i q) (get_or (set xs i x) i q)
   here q =
