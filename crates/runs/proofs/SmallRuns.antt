@@ -122,32 +122,14 @@ module _ (work report : List ℕ) (w : 24 ≤ length work) (s : 12 ≤ length re
   fresh_0 n (inr (inr (inr (inr (inr h))))) = h.1 row_example.pad_0_can
 
   fresh_2 : (k : ℕ) → k < 6 → Refused row_field empty_book Place 2 work report k → ⊥
-  fresh_2 k l (inl (inl h)) = omega (arith, h.1)
-  fresh_2 k l (inl (inr h)) = omega (arith, h.1)
-  fresh_2 k l (inr (inl h)) = omega (arith, h.1)
-  fresh_2 k l (inr (inr (inl h))) = omega (arith, h.0)
-  fresh_2 k l (inr (inr (inr (inl h)))) = omega (arith, h.0)
-  fresh_2 k l (inr (inr (inr (inr (inl h))))) = omega (arith, h.0)
-  fresh_2 k l (inr (inr (inr (inr (inr h))))) = omega (arith, h.0)
+  fresh_2 k l h = grind arith
 
   fresh_6 : (k : ℕ) → k < 5 → Refused row_field empty_book Place 6 work report k → ⊥
-  fresh_6 k l (inl (inl h)) = omega (arith, h.1)
-  fresh_6 k l (inl (inr h)) = omega (arith, h.1)
-  fresh_6 k l (inr (inl h)) = omega (arith, h.0)
-  fresh_6 k l (inr (inr (inl h))) = omega (arith, h.0)
-  fresh_6 k l (inr (inr (inr (inl h)))) = omega (arith, h.0)
-  fresh_6 k l (inr (inr (inr (inr (inl h))))) = omega (arith, h.0)
-  fresh_6 k l (inr (inr (inr (inr (inr h))))) = omega (arith, h.0)
+  fresh_6 k l h = grind arith
 
   -- the row with pad 0 wired
   again_0 : (k : ℕ) → k < 7 → Refused row_field zero_booked Place 0 work report k → ⊥
-  again_0 k l (inl (inl h)) = omega (arith, h.1)
-  again_0 k l (inl (inr h)) = omega (arith, h.1)
-  again_0 k l (inr (inl h)) = omega (arith, h.1)
-  again_0 k l (inr (inr (inl h))) = true_false h.1
-  again_0 k l (inr (inr (inr (inl h)))) = omega (arith, h.0)
-  again_0 k l (inr (inr (inr (inr (inl h))))) = omega (arith, h.0)
-  again_0 k l (inr (inr (inr (inr (inr h))))) = omega (arith, h.0)
+  again_0 k l h = grind (arith, h)
 
   before_bar_0 : (k : ℕ) → k < 11 → Refused row_field zero_booked Bar 0 work report k → ⊥
   before_bar_0 k l (inl (inl h)) = omega (arith, h.1)
