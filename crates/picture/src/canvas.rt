@@ -3,64 +3,47 @@ ghost use Rattle.std.specs.Prelude.{◌≡◌, ℕ, Some, Decides, ◌≢◌};
 ghost use Rattle.boards.specs.Places.{place_at};
 ghost use Rattle.picture.specs.Glyphs.{letter, LeavesLayer, GlyphOf};
 
+use crate::sheet::Shape;
 use boards::board::Board;
 use boards::place::{Place, PlacedBoard};
-use std::alloc::{AllocError, Global};
+use std::fmt;
 
 // What the characters mean.
 pub const LEGEND: &str =
     "P pad, L landing, B both, v way to another layer, . plain; A and a: a wired pad and its net; # bar";
 
-// How much there is to draw.
-#[derive(Clone, Copy)]
-pub struct Size {
-    pub layers: u16,
-    pub rows: u16,
-    pub columns: u16,
+// A board of a shape, with a label for each cell that has one.
+#[derive(Drop)]
+pub struct Canvas<'a, B> {
+    pub board: &'a B,
+    pub labels: &'a [Option<char>],
+    pub shape: Shape,
 }
 
-// Each layer under its number, with a character for each place: that of the cell's label, or else what the board has there.
-pub fn draw<B: PlacedBoard>(
-    heap: Global,
-    board: &B,
-    labels: &[char],
-    size: Size,
-) -> Result<String, AllocError> {
-    let mut text = String::new(heap);
-    for layer in 1..=size.layers {
-        text.push_str(format!(in heap; "\nlayer {layer}\n")?.as_str())?;
-        for row in 0..size.rows {
-            draw_row(&mut text, board, labels, layer, row, size.columns)?;
+// Each layer under its number, with a character for each place.
+impl<B: PlacedBoard> fmt::Display for Canvas<'_, B> {
+    fn fmt<W: fmt::Write>(&self, f: &mut fmt::Formatter<W>) -> fmt::Result {
+        for layer in 1..=self.shape.layers() {
+            write!(f, "\nlayer {layer}\n")?;
+            for row in 0..self.shape.rows {
+                for column in 0..self.shape.columns {
+                    let mark = self.mark(Place { layer, row, column });
+                    write!(f, " {mark}")?;
+                }
+                writeln!(f)?;
+            }
         }
+        Ok(())
     }
-    Ok(text)
 }
 
-fn draw_row<B: PlacedBoard>(
-    text: &mut String,
-    board: &B,
-    labels: &[char],
-    layer: u16,
-    row: u16,
-    columns: u16,
-) -> Result<(), AllocError> {
-    for column in 0..columns {
-        text.push(' ')?;
-        text.push(mark(board, labels, Place { layer, row, column }))?;
-    }
-    text.push('\n')
-}
-
-// The label of the cell at a place, unless that is a blank.
-fn mark<B: PlacedBoard>(board: &B, labels: &[char], place: Place) -> char {
-    let label = match board.cell_at(place) {
-        Some(cell) => labels.get(cell as usize).copied().unwrap_or(' '),
-        None => ' ',
-    };
-    if label == ' ' {
-        glyph(board, place)
-    } else {
-        label
+impl<B: PlacedBoard> Canvas<'_, B> {
+    // The label of the cell at a place, or else what the board has there.
+    fn mark(&self, place: Place) -> char {
+        self.board
+            .cell_at(place)
+            .and_then(|cell| self.labels.get(cell as usize).copied().flatten())
+            .unwrap_or_else(|| glyph(self.board, place))
     }
 }
 
@@ -68,14 +51,13 @@ fn mark<B: PlacedBoard>(board: &B, labels: &[char], place: Place) -> char {
 fn glyph<B: PlacedBoard>(board: &B, place: Place) -> char
     ensures { GlyphOf (B.Board.meaning board.now) (B.PlacedBoard.places board.now) place result }
 {
-    match board.cell_at(place) {
-        Some(cell) => letter(
+    board.cell_at(place).map_or(' ', |cell| {
+        letter(
             board.is_pad(cell),
             board.is_landing(cell),
             leaves_layer(board, cell, place.layer),
-        ),
-        None => ' ',
-    }
+        )
+    })
 }
 
 fn letter(pad: bool, landing: bool, via: bool) -> char
@@ -94,23 +76,13 @@ fn letter(pad: bool, landing: bool, via: bool) -> char
 fn leaves_layer<B: PlacedBoard>(board: &B, cell: u16, layer: u16) -> bool
     ensures { Decides result (LeavesLayer (B.Board.meaning board.now) (B.PlacedBoard.places board.now) cell layer) }
 {
-    for j in 0..8 {
-        if is_elsewhere(board, board.outlet(cell, j), layer) {
-            return true;
-        }
-    }
-    false
+    (0..8).any(|j| is_elsewhere(board, board.outlet(cell, j), layer))
 }
 
 // Whether there is a next cell and it lies on another layer.
 fn is_elsewhere<B: PlacedBoard>(board: &B, next: Option<u16>, layer: u16) -> bool
     ensures { Decides result ((d : ℕ) × (q : Place) × (next ≡ Some d) × (place_at (B.PlacedBoard.places board.now) d ≡ Some q) × (q.layer ≢ layer)) }
 {
-    let Some(cell) = next else {
-        return false;
-    };
-    match board.place(cell) {
-        Some(place) => place.layer != layer,
-        None => false,
-    }
+    next.and_then(|cell| board.place(cell))
+        .is_some_and(|place| place.layer != layer)
 }

@@ -1,15 +1,15 @@
 // Making the calls of a sheet, and what is said of each.
-use crate::sheet::Order;
 use boards::board::Board;
 use drawings::calls::show;
 use records::record::{Record, record_at};
 use records::refusal::Refusal;
-use runs::calls::{Call, Kind};
+use runs::calls::{Call, Order};
 use runs::run::run;
 use std::alloc::{AllocError, Global};
+use std::fmt;
 
 // The drawing that stands after the calls, and a line for each of them.
-#[derive(Drop)]
+#[derive(Debug, Drop)]
 pub struct Outcome {
     pub drawing: Vec<Record>,
     pub answers: String,
@@ -21,76 +21,61 @@ pub fn perform<B: Board>(heap: Global, board: &B, orders: &[Order]) -> Result<Ou
     let mut calls = Vec::new(heap);
     for order in orders {
         calls.push(Call {
-            kind: order.kind,
-            cell: order.cell,
-            work: vec![in heap; 0u16; 4 * cells]?,
-            report: vec![in heap; 0u16; 2 * cells]?,
+            order: *order,
+            work: vec![in heap; 0; 4 * cells]?,
+            report: vec![in heap; 0; 2 * cells]?,
             answer: None,
         })?;
     }
-    let _ = run(board, drawing.as_mut_slice(), calls.as_mut_slice());
+    let _ = run(board, &mut drawing, &mut calls);
     let mut answers = String::new(heap);
-    for call in calls.iter() {
-        answers.push_str(say(heap, call)?.as_str())?;
+    for call in &calls {
+        say(&mut answers, call)?;
     }
     Ok(Outcome { drawing, answers })
 }
 
-// A call and its answer.
-fn say(heap: Global, call: &Call) -> Result<String, AllocError> {
-    let word = word(call.kind);
-    let cell = call.cell;
-    match &call.answer {
-        Some(Ok(number)) => format!(in heap; "{word} {cell}: ok {number}\n"),
+// A line with a call and its answer.
+fn say(text: &mut String, call: &Call) -> Result<(), AllocError> {
+    let Order { kind, cell } = call.order;
+    write!(text, "{kind} {cell}: ")?;
+    match call.answer {
+        Some(Ok(number)) => writeln!(text, "ok {number}"),
         Some(Err(Refusal::NoWay { pads, cells })) => {
-            let shown = say_fence(
-                heap,
-                call.report.as_slice(),
-                *pads as usize,
-                *cells as usize,
-            )?;
-            format!(in heap; "{word} {cell}: no 12, {shown}\n")
+            let shown_pads = Numbers::new(&call.report, 0, pads);
+            let shown_cells = Numbers::new(&call.report, pads, cells);
+            writeln!(text, "no 12, pads{shown_pads} behind cells{shown_cells}")
         }
-        Some(Err(refusal)) => {
-            let number = refusal.number();
-            format!(in heap; "{word} {cell}: no {number}\n")
-        }
-        None => format!(in heap; "{word} {cell}: not made\n"),
+        Some(Err(refusal)) => writeln!(text, "no {}", refusal.number()),
+        None => writeln!(text, "not made"),
     }
 }
 
-fn word(kind: Kind) -> &'static str {
-    match kind {
-        Kind::Place => "place",
-        Kind::Lift => "lift",
-        Kind::Bar => "bar",
-        Kind::Clear => "clear",
-    }
-}
-
-// The fence at the front of report memory.
-fn say_fence(
-    heap: Global,
-    report: &[u16],
-    pads: usize,
-    cells: usize,
-) -> Result<String, AllocError> {
-    let shown_pads = say_numbers(heap, report, 0, pads)?;
-    let shown_cells = say_numbers(heap, report, pads, cells)?;
-    format!(in heap; "pads{shown_pads} behind cells{shown_cells}")
-}
-
-fn say_numbers(
-    heap: Global,
-    report: &[u16],
+// Some of the numbers in report memory, a blank before each.
+#[derive(Clone, Copy, Debug)]
+struct Numbers<'a> {
+    report: &'a [u16],
     from: usize,
     count: usize,
-) -> Result<String, AllocError> {
-    let mut text = String::new(heap);
-    for number in report.iter().skip(from).take(count) {
-        text.push_str(format!(in heap; " {number}")?.as_str())?;
+}
+
+impl<'a> Numbers<'a> {
+    fn new(report: &'a [u16], from: u16, count: u16) -> Self {
+        Numbers {
+            report,
+            from: from as usize,
+            count: count as usize,
+        }
     }
-    Ok(text)
+}
+
+impl fmt::Display for Numbers<'_> {
+    fn fmt<W: fmt::Write>(&self, f: &mut fmt::Formatter<W>) -> fmt::Result {
+        for number in self.report.iter().skip(self.from).take(self.count) {
+            write!(f, " {number}")?;
+        }
+        Ok(())
+    }
 }
 
 // A line for each wired pad: the cells of its net, from the pad to the landing.
@@ -99,14 +84,14 @@ pub fn courses<B: Board>(
     board: &B,
     drawing: &[Record],
 ) -> Result<String, AllocError> {
-    let mut report = vec![in heap; 0u16; 2 * board.cells() as usize]?;
+    let mut report = vec![in heap; 0; 2 * board.cells() as usize]?;
     let mut text = String::new(heap);
     for pad in 0..board.cells() {
-        if record_at(drawing, pad).is_first() {
-            if let Ok(count) = show(board, drawing, report.as_mut_slice(), pad) {
-                let course = say_numbers(heap, report.as_slice(), 0, count as usize)?;
-                text.push_str(format!(in heap; "course of {pad}:{course}\n")?.as_str())?;
-            }
+        if record_at(drawing, pad).is_first()
+            && let Ok(count) = show(board, drawing, &mut report, pad)
+        {
+            let course = Numbers::new(&report, 0, count);
+            writeln!(text, "course of {pad}:{course}")?;
         }
     }
     Ok(text)

@@ -1,7 +1,7 @@
 // What is shown for a text: its fault, the refusal of its map, or the board.
-use crate::canvas::{LEGEND, Size, draw};
+use crate::canvas::{Canvas, LEGEND};
 use crate::orders::{Outcome, courses, perform};
-use crate::sheet::{Order, Sheet, read_sheet};
+use crate::sheet::{Shape, Sheet, read_sheet};
 use crate::wires::labels;
 use boards::board::Board;
 use boards::count::{Mark, count_marked};
@@ -10,6 +10,7 @@ use boards::field::Field;
 use boards::maps::{MapKind, check_map};
 use boards::place::PlacedBoard;
 use boards::refusal::BoardRefusal;
+use runs::calls::Order;
 use std::alloc::{AllocError, Global};
 
 pub fn report(heap: Global, text: &str) -> Result<String, AllocError> {
@@ -21,45 +22,26 @@ pub fn report(heap: Global, text: &str) -> Result<String, AllocError> {
 
 fn report_sheet(heap: Global, sheet: Sheet) -> Result<String, AllocError> {
     let Sheet {
-        kind,
-        rows,
-        columns,
+        shape,
         bytes,
         orders,
     } = sheet;
-    if let Err(refusal) = check_map(kind, rows, columns, bytes.as_slice()) {
+    let Shape {
+        kind,
+        rows,
+        columns,
+    } = shape;
+    if let Err(refusal) = check_map(kind, rows, columns, &bytes) {
         let number = refusal.number();
         let meaning = meaning(refusal);
         return format!(in heap; "refused, {number}: {meaning}\n");
     }
     match kind {
         MapKind::FieldMap => {
-            let field = Field::new(rows, columns, bytes);
-            report_board(
-                heap,
-                &field,
-                "field",
-                orders.as_slice(),
-                Size {
-                    layers: 2,
-                    rows,
-                    columns,
-                },
-            )
+            report_board(heap, &Field::new(rows, columns, bytes), &orders, shape)
         }
         MapKind::EscapeMap => {
-            let escape = Escape::new(rows, columns, bytes);
-            report_board(
-                heap,
-                &escape,
-                "escape",
-                orders.as_slice(),
-                Size {
-                    layers: 1,
-                    rows,
-                    columns,
-                },
-            )
+            report_board(heap, &Escape::new(rows, columns, bytes), &orders, shape)
         }
     }
 }
@@ -68,20 +50,22 @@ fn report_sheet(heap: Global, sheet: Sheet) -> Result<String, AllocError> {
 fn report_board<B: PlacedBoard>(
     heap: Global,
     board: &B,
-    name: &str,
     orders: &[Order],
-    size: Size,
+    shape: Shape,
 ) -> Result<String, AllocError> {
-    let Size { rows, columns, .. } = size;
     let cells = board.cells();
     let pads = count_marked(board, Mark::Pad);
     let landings = count_marked(board, Mark::Landing);
     let Outcome { drawing, answers } = perform(heap, board, orders)?;
-    let courses = courses(heap, board, drawing.as_slice())?;
-    let labels = labels(heap, board, drawing.as_slice())?;
-    let picture = draw(heap, board, labels.as_slice(), size)?;
+    let courses = courses(heap, board, &drawing)?;
+    let labels = labels(heap, board, &drawing)?;
+    let picture = Canvas {
+        board,
+        labels: &labels,
+        shape,
+    };
     format!(in heap;
-        "{name} {rows} x {columns}: {cells} cells, {pads} pads, {landings} landings\n{answers}{courses}{picture}\n{LEGEND}\n"
+        "{shape}: {cells} cells, {pads} pads, {landings} landings\n{answers}{courses}{picture}\n{LEGEND}\n"
     )
 }
 

@@ -1,96 +1,96 @@
 // A map and the calls on it, as a text gives them.
-ghost use Rattle.std.specs.Prelude.{IfOk};
+ghost use Rattle.std.specs.Prelude.{◌≡◌, ◌↔◌, true, false, Err, OnOk};
 ghost use Rattle.picture.specs.Rows.{ReadsRow};
+ghost use Rattle.picture.specs.declared.sheet.SheetError.TheVariants.{Memory};
 
 use boards::maps::MapKind;
-use runs::calls::Kind;
+use runs::calls::Order;
 use std::alloc::{AllocError, AllocFailed, Global};
 use std::fmt;
+use thiserror::Error;
 
-#[derive(Drop)]
-pub struct Sheet {
+// The kind and the sides of a map.
+#[derive(Clone, Copy, PartialEq, Eq, Debug)]
+pub struct Shape {
     pub kind: MapKind,
     pub rows: u16,
     pub columns: u16,
+}
+
+impl Shape {
+    // How many layers there are on the board of such a map.
+    pub fn layers(self) -> u16 {
+        match self.kind {
+            MapKind::FieldMap => 2,
+            MapKind::EscapeMap => 1,
+        }
+    }
+}
+
+impl fmt::Display for Shape {
+    fn fmt<W: fmt::Write>(&self, f: &mut fmt::Formatter<W>) -> fmt::Result {
+        let kind = match self.kind {
+            MapKind::FieldMap => "field",
+            MapKind::EscapeMap => "escape",
+        };
+        write!(f, "{kind} {} x {}", self.rows, self.columns)
+    }
+}
+
+#[derive(Debug, Drop)]
+pub struct Sheet {
+    pub shape: Shape,
     pub bytes: Vec<u8>,
     pub orders: Vec<Order>,
 }
 
-// A call to be made.
-#[derive(Clone, Copy)]
-pub struct Order {
-    pub kind: Kind,
-    pub cell: u16,
-}
-
-#[derive(Drop)]
+#[derive(Clone, Copy, PartialEq, Eq, Debug, Error)]
 pub enum SheetError {
-    // Line 1 is neither `field R C` nor `escape R C`.
+    #[error("line 1: expected 'field R C' or 'escape R C', with R rows and C columns")]
     Header,
-    // The line is not one digit for each column.
+    #[error("line {line}: expected {columns} digits, one for each column")]
     Row { line: usize, columns: u16 },
-    // The line after the map is no call.
+    #[error("line {line}: expected 'place', 'lift', 'bar' or 'clear', and the number of a cell")]
     Order { line: usize },
+    #[error("out of memory")]
     Memory,
 }
 
 impl From<AllocError> for SheetError {
+    ghost from_gives = { λ _ e. e ≡ Memory };
+
     fn from(_error: AllocError) -> SheetError {
         SheetError::Memory
     }
 }
 
 impl<T: Drop> From<AllocFailed<T>> for SheetError {
+    ghost from_gives = { λ _ e. e ≡ Memory };
+
     fn from(_error: AllocFailed<T>) -> SheetError {
         SheetError::Memory
-    }
-}
-
-impl fmt::Display for SheetError {
-    fn fmt<W: fmt::Write>(&self, f: &mut fmt::Formatter<W>) -> fmt::Result {
-        match self {
-            SheetError::Header => write!(
-                f,
-                "line 1: expected 'field R C' or 'escape R C', with R rows and C columns"
-            ),
-            SheetError::Row { line, columns } => write!(
-                f,
-                "line {line}: expected {columns} digits, one for each column"
-            ),
-            SheetError::Order { line } => write!(
-                f,
-                "line {line}: expected 'place', 'lift', 'bar' or 'clear', and the number of a cell"
-            ),
-            SheetError::Memory => write!(f, "out of memory"),
-        }
     }
 }
 
 // The map in the text, its header and the digits of its rows, and then the calls.
 pub fn read_sheet(heap: Global, text: &str) -> Result<Sheet, SheetError> {
     let mut lines = text.lines();
-    let Some((kind, rows, columns)) = read_header(lines.next().unwrap_or("")) else {
-        return Err(SheetError::Header);
-    };
+    let shape = lines
+        .next()
+        .and_then(read_header)
+        .ok_or(SheetError::Header)?;
     let mut bytes = Vec::new(heap);
     let mut orders = Vec::new(heap);
     for (i, text) in lines.enumerate() {
         let line = i.saturating_add(2);
-        if i < rows as usize {
-            if !read_row(&mut bytes, text.as_bytes(), columns)? {
-                return Err(SheetError::Row { line, columns });
-            }
+        if i < shape.rows as usize {
+            read_row(&mut bytes, text.as_bytes(), line, shape.columns)?;
         } else {
-            match read_order(text) {
-                Some(order) => orders.push(order)?,
-                None => return Err(SheetError::Order { line }),
-            }
+            orders.push(read_order(text).ok_or(SheetError::Order { line })?)?;
         }
     }
     Ok(Sheet {
-        kind,
-        rows,
-        columns,
+        shape,
         bytes,
         orders,
     })
@@ -98,32 +98,23 @@ pub fn read_sheet(heap: Global, text: &str) -> Result<Sheet, SheetError> {
 
 fn read_order(text: &str) -> Option<Order> {
     let (word, number) = text.split_once(' ')?;
-    let kind = read_call(word)?;
-    let cell = number.parse::<u16>().ok()?;
-    Some(Order { kind, cell })
+    Some(Order {
+        kind: word.parse().ok()?,
+        cell: number.parse().ok()?,
+    })
 }
 
-fn read_call(word: &str) -> Option<Kind> {
-    match word {
-        "place" => Some(Kind::Place),
-        "lift" => Some(Kind::Lift),
-        "bar" => Some(Kind::Bar),
-        "clear" => Some(Kind::Clear),
-        _ => None,
-    }
-}
-
-fn read_header(line: &str) -> Option<(MapKind, u16, u16)> {
+fn read_header(line: &str) -> Option<Shape> {
     let mut words = line.split(' ');
-    let kind = read_kind(words.next()?)?;
-    let rows = words.next()?.parse::<u16>().ok()?;
-    let columns = words.next()?.parse::<u16>().ok()?;
-    match words.next() {
-        None => Some((kind, rows, columns)),
-        Some(_) => None,
-    }
+    let shape = Shape {
+        kind: read_kind(words.next()?)?,
+        rows: words.next()?.parse().ok()?,
+        columns: words.next()?.parse().ok()?,
+    };
+    words.next().is_none().then_some(shape)
 }
 
+// The kinds of map are another crate's, which reads no words, so this is no FromStr.
 fn read_kind(word: &str) -> Option<MapKind> {
     match word {
         "field" => Some(MapKind::FieldMap),
@@ -132,18 +123,17 @@ fn read_kind(word: &str) -> Option<MapKind> {
     }
 }
 
-// Adds the digits of a row; false if it has not one digit for each column.
-fn read_row(bytes: &mut Vec<u8>, row: &[u8], columns: u16) -> Result<bool, AllocError>
-    ensures { IfOk result (λ ok. ReadsRow columns row.now bytes.old.items bytes.new.items ok) }
+// Adds the digits of a row, if it has one for each column.
+fn read_row(bytes: &mut Vec<u8>, row: &[u8], line: usize, columns: u16) -> Result<(), SheetError>
+    ensures ok { OnOk result (ReadsRow columns row.now bytes.old.items bytes.new.items true) }
+    ensures err { result ≡ Err (SheetError.Row line columns) →
+        ReadsRow columns row.now bytes.old.items bytes.new.items false }
 {
-    if row.len() != columns as usize {
-        return Ok(false);
+    if row.len() != columns as usize || !row.iter().all(|byte| byte.is_ascii_digit()) {
+        return Err(SheetError::Row { line, columns });
     }
     for byte in row {
-        if *byte < b'0' || *byte > b'9' {
-            return Ok(false);
-        }
         bytes.push(*byte - b'0')?;
     }
-    Ok(true)
+    Ok(())
 }

@@ -6,32 +6,30 @@ use layouts::wires::Point;
 use records::record::{Record, record_at};
 use std::alloc::{AllocError, Global};
 
-// A character for each cell of a drawing: a letter for each wire, capital at its pad, # for a bar, a blank for a free cell.
+// A label for each cell of a drawing but the free ones: a letter for each wire, capital at its pad, # for a bar.
 pub fn labels<B: PlacedBoard>(
     heap: Global,
     board: &B,
     drawing: &[Record],
-) -> Result<Vec<char>, AllocError> {
-    let mut labels = vec![in heap; ' '; drawing.len()]?;
+) -> Result<Vec<Option<char>>, AllocError> {
+    let mut labels: Vec<Option<char>> = drawing
+        .iter()
+        .map(|record| record.is_barred().then_some('#'))
+        .collect(heap)?;
     let mut points = vec![in heap; Point { row: 0, column: 0 }; drawing.len()]?;
-    let mut wires = 0u8;
-    for cell in 0..board.cells() {
-        let record = record_at(drawing, cell);
-        if record.is_barred() {
-            write(&mut labels, cell, '#');
-        } else if record.is_first() {
-            let letter = (b'a' + wires % 26) as char;
-            label_wire(
-                board,
-                drawing,
-                cell,
-                points.as_mut_slice(),
-                &mut labels,
-                letter,
-            );
-            write(&mut labels, cell, (b'A' + wires % 26) as char);
-            wires = wires.wrapping_add(1);
-        }
+    let pads = (0..board.cells()).filter(|pad| record_at(drawing, *pad).is_first());
+    for (wire, pad) in pads.enumerate() {
+        // The letters begin anew after 26 wires, and after 256.
+        let letter = (wire % 256 % 26) as u8;
+        label_wire(
+            board,
+            drawing,
+            pad,
+            &mut points,
+            &mut labels,
+            (b'a' + letter) as char,
+        );
+        write(&mut labels, pad, (b'A' + letter) as char);
     }
     Ok(labels)
 }
@@ -42,36 +40,29 @@ fn label_wire<B: PlacedBoard>(
     drawing: &[Record],
     pad: u16,
     points: &mut [Point],
-    labels: &mut Vec<char>,
+    labels: &mut [Option<char>],
     letter: char,
 ) {
     let Ok((layer, count)) = read_wire(board, drawing, pad, points) else {
         return;
     };
-    let wire = points.iter().take(count as usize);
-    for point in wire {
-        label_point(board, labels, layer.number(), *point, letter);
-    }
-    if let Some(last) = points.get((count as usize).saturating_sub(1)) {
-        label_point(board, labels, 2, *last, letter);
+    let wire = points.get(..count as usize).unwrap_or_default();
+    let on_its_layer = wire.iter().map(|point| place_on(layer.number(), *point));
+    let landing = wire.last().map(|point| place_on(2, *point));
+    for place in on_its_layer.chain(landing) {
+        if let Some(cell) = board.cell_at(place) {
+            write(labels, cell, letter);
+        }
     }
 }
 
-fn label_point<B: PlacedBoard>(
-    board: &B,
-    labels: &mut Vec<char>,
-    layer: u16,
-    point: Point,
-    letter: char,
-) {
+fn place_on(layer: u16, point: Point) -> Place {
     let Point { row, column } = point;
-    if let Some(cell) = board.cell_at(Place { layer, row, column }) {
-        write(labels, cell, letter);
-    }
+    Place { layer, row, column }
 }
 
-fn write(labels: &mut Vec<char>, cell: u16, label: char) {
+fn write(labels: &mut [Option<char>], cell: u16, label: char) {
     if let Some(place) = labels.get_mut(cell as usize) {
-        *place = label;
+        *place = Some(label);
     }
 }

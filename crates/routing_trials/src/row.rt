@@ -4,11 +4,12 @@
 // is placed and then cell 5 barred.
 ghost use Rattle.std.specs.Prelude.{◌≡◌, ◌-◌, ◌<◌, ◌≤◌, Some, None};
 
-use runs::calls;
 use runs::calls::Order;
 use std::alloc::{AllocError, AllocFailed, Global};
+use std::str::FromStr;
 
-#[derive(Clone, Copy)]
+// Which board the calls are made on.
+#[derive(Clone, Copy, PartialEq, Eq, Debug)]
 pub enum Kind {
     Field,
     Escape,
@@ -16,7 +17,20 @@ pub enum Kind {
     Ring,
 }
 
-#[derive(Drop)]
+impl FromStr for Kind {
+    type Err = RowError;
+
+    fn from_str(word: &str) -> Result<Kind, RowError> {
+        match word {
+            "field" => Ok(Kind::Field),
+            "escape" => Ok(Kind::Escape),
+            "ring" => Ok(Kind::Ring),
+            _ => Err(RowError::Form),
+        }
+    }
+}
+
+#[derive(Debug, Drop)]
 pub struct Row {
     pub kind: Kind,
     pub rows: u16,
@@ -26,7 +40,7 @@ pub struct Row {
     pub orders: Vec<Order>,
 }
 
-#[derive(Drop)]
+#[derive(Clone, Copy, PartialEq, Eq, Debug)]
 pub enum RowError {
     // The line is no row of the table.
     Form,
@@ -46,72 +60,40 @@ impl<T: Drop> From<AllocFailed<T>> for RowError {
 }
 
 pub fn read_row(heap: Global, line: &str) -> Result<Row, RowError> {
-    let Some((board, orders)) = line.split_once(':') else {
-        return Err(RowError::Form);
-    };
+    let (board, orders) = line.split_once(':').ok_or(RowError::Form)?;
     let mut words = board.split_ascii_whitespace();
-    let kind = read_kind(words.next())?;
-    let rows = read_number(words.next())?;
-    let columns = read_number(words.next())?;
-    let bytes = read_map(heap, words.next().unwrap_or(""))?;
-    let mut kept = Vec::new(heap);
-    for word in words {
-        kept.push(read_number(Some(word))?)?;
-    }
     Ok(Row {
-        kind,
-        rows,
-        columns,
-        bytes,
-        kept,
-        orders: read_orders(heap, orders)?,
+        kind: read(words.next())?,
+        rows: read(words.next())?,
+        columns: read(words.next())?,
+        bytes: read_map(heap, words.next().unwrap_or_default())?,
+        kept: words.map(|word| read(Some(word))).try_collect(heap)?,
+        orders: orders.split(',').map(read_order).try_collect(heap)?,
     })
 }
 
-fn read_kind(word: Option<&str>) -> Result<Kind, RowError> {
-    match word {
-        Some("field") => Ok(Kind::Field),
-        Some("escape") => Ok(Kind::Escape),
-        Some("ring") => Ok(Kind::Ring),
-        _ => Err(RowError::Form),
-    }
-}
-
-fn read_number(word: Option<&str>) -> Result<u16, RowError> {
-    match word.unwrap_or("").parse() {
-        Ok(number) => Ok(number),
-        Err(_) => Err(RowError::Form),
-    }
-}
-
-fn read_orders(heap: Global, text: &str) -> Result<Vec<Order>, RowError> {
-    let mut orders = Vec::new(heap);
-    for order in text.split(',') {
-        orders.push(read_order(order)?)?;
-    }
-    Ok(orders)
+// What a word stands for, if there is a word and it stands for anything.
+fn read<T: FromStr>(word: Option<&str>) -> Result<T, RowError>
+where
+    T::Err: Drop,
+{
+    word.and_then(|word| word.parse().ok())
+        .ok_or(RowError::Form)
 }
 
 fn read_order(text: &str) -> Result<Order, RowError> {
-    let Some((word, number)) = text.split_once(' ') else {
-        return Err(RowError::Form);
-    };
-    let Some(kind) = calls::read_kind(word) else {
-        return Err(RowError::Form);
-    };
-    let cell = read_number(Some(number))?;
-    Ok(Order { kind, cell })
+    let mut words = text.splitn(2, ' ');
+    Ok(Order {
+        kind: read(words.next())?,
+        cell: read(words.next())?,
+    })
 }
 
 fn read_map(heap: Global, digits: &str) -> Result<Vec<u8>, RowError> {
-    let mut bytes = Vec::new(heap);
-    for byte in digits.as_bytes() {
-        match digit(*byte) {
-            Some(value) => bytes.push(value)?,
-            None => return Err(RowError::Form),
-        }
-    }
-    Ok(bytes)
+    digits
+        .bytes()
+        .map(|byte| digit(byte).ok_or(RowError::Form))
+        .try_collect(heap)
 }
 
 // The value of a decimal digit.

@@ -13,6 +13,7 @@ use runs::calls;
 use runs::calls::Order;
 use runs::step::step;
 use std::alloc::{AllocError, Global};
+use std::collections::BTreeSet;
 
 // The answers for a line of the table, in the order of its calls.
 pub fn answers(heap: Global, line: &str) -> Result<String, AllocError> {
@@ -33,104 +34,94 @@ fn try_row(heap: Global, row: Row) -> Result<String, AllocError> {
         orders,
     } = row;
     match kind {
-        Kind::Field => try_kept(
-            heap,
-            KeepOut::new(Field::new(rows, columns, bytes)),
-            kept.as_slice(),
-            orders.as_slice(),
-        ),
-        Kind::Escape => try_kept(
-            heap,
-            KeepOut::new(Escape::new(rows, columns, bytes)),
-            kept.as_slice(),
-            orders.as_slice(),
-        ),
-        Kind::Ring => try_kept(heap, KeepOut::new(Ring), kept.as_slice(), orders.as_slice()),
+        Kind::Field => try_board(heap, Field::new(rows, columns, bytes), &kept, &orders),
+        Kind::Escape => try_board(heap, Escape::new(rows, columns, bytes), &kept, &orders),
+        Kind::Ring => try_board(heap, Ring, &kept, &orders),
     }
 }
 
-fn try_kept<B: Board + Drop>(
+// The answers to calls on a board with some cells kept out.
+fn try_board<B: Board + Drop>(
     heap: Global,
-    mut board: KeepOut<B>,
+    board: B,
     kept: &[u16],
     orders: &[Order],
 ) -> Result<String, AllocError> {
+    let mut board = KeepOut::new(board);
     for cell in kept {
         let _ = board.close(*cell);
     }
-    try_board(heap, &board, orders)
-}
-
-fn try_board<B: Board>(heap: Global, board: &B, orders: &[Order]) -> Result<String, AllocError> {
-    let cells = board.cells() as usize;
-    let mut drawing = vec![in heap; Record::Barred; cells]?;
-    let _ = new(board, drawing.as_mut_slice());
-    let mut book = Book {
-        wired: vec![in heap; false; cells]?,
-        barred: vec![in heap; false; cells]?,
-    };
-    let mut text = String::new(heap);
+    let mut trial = Trial::new(heap, &board)?;
+    let mut answers = Vec::new(heap);
     for order in orders {
-        if !text.is_empty() {
-            text.push(' ')?;
-        }
-        let answer = try_call(heap, board, drawing.as_mut_slice(), &mut book, *order)?;
-        text.push_str(answer.as_str())?;
-        if !stands(board, drawing.as_slice(), &book) {
-            text.push_str(" bad")?;
-        }
+        let answer = trial.call(heap, *order)?;
+        let fault = if trial.stands() { "" } else { " bad" };
+        answers.push(format!(in heap; "{answer}{fault}")?)?;
     }
-    Ok(text)
+    answers.join(heap, " ")
 }
 
-// Which cells the accepted calls leave wired, and which barred.
+// A drawing on a board, and which cells the accepted calls leave wired, and which barred.
 #[derive(Drop)]
-struct Book {
-    wired: Vec<bool>,
-    barred: Vec<bool>,
+struct Trial<'a, B> {
+    board: &'a B,
+    drawing: Vec<Record>,
+    wired: BTreeSet<u16>,
+    barred: BTreeSet<u16>,
 }
 
-// Makes a call with work memory that holds anything, and enters it into the book if it is accepted.
-fn try_call<B: Board>(
-    heap: Global,
-    board: &B,
-    drawing: &mut [Record],
-    book: &mut Book,
-    order: Order,
-) -> Result<String, AllocError> {
-    let Order { kind, cell } = order;
-    let cells = board.cells() as usize;
-    let mut work = vec![in heap; 7u16; 4 * cells]?;
-    let mut report = vec![in heap; 7u16; 2 * cells]?;
-    match step(
-        board,
-        drawing,
-        kind,
-        cell,
-        work.as_mut_slice(),
-        report.as_mut_slice(),
-    ) {
-        Ok(number) => {
-            enter(book, order);
-            show_answer(heap, kind, number)
+impl<'a, B: Board> Trial<'a, B> {
+    fn new(heap: Global, board: &'a B) -> Result<Self, AllocError> {
+        let mut drawing = vec![in heap; Record::Barred; board.cells() as usize]?;
+        let _ = new(board, &mut drawing);
+        Ok(Trial {
+            board,
+            drawing,
+            wired: BTreeSet::new(heap),
+            barred: BTreeSet::new(heap),
+        })
+    }
+
+    // Makes a call with work memory that holds anything, and enters it if it is accepted.
+    fn call(&mut self, heap: Global, order: Order) -> Result<String, AllocError> {
+        let Order { kind, cell } = order;
+        let cells = self.board.cells() as usize;
+        let mut work = vec![in heap; 7; 4 * cells]?;
+        let mut report = vec![in heap; 7; 2 * cells]?;
+        match step(
+            self.board,
+            &mut self.drawing,
+            kind,
+            cell,
+            &mut work,
+            &mut report,
+        ) {
+            Ok(number) => {
+                self.enter(order)?;
+                show_answer(heap, kind, number)
+            }
+            Err(refusal) => show_refusal(heap, refusal, &report),
         }
-        Err(refusal) => show_refusal(heap, refusal, report.as_slice()),
     }
-}
 
-fn enter(book: &mut Book, order: Order) {
-    let at = order.cell as usize;
-    match order.kind {
-        calls::Kind::Place => set(&mut book.wired, at, true),
-        calls::Kind::Lift => set(&mut book.wired, at, false),
-        calls::Kind::Bar => set(&mut book.barred, at, true),
-        calls::Kind::Clear => set(&mut book.barred, at, false),
+    fn enter(&mut self, order: Order) -> Result<(), AllocError> {
+        let Order { kind, cell } = order;
+        match kind {
+            calls::Kind::Place => self.wired.insert(cell)?,
+            calls::Kind::Lift => self.wired.remove(&cell),
+            calls::Kind::Bar => self.barred.insert(cell)?,
+            calls::Kind::Clear => self.barred.remove(&cell),
+        };
+        Ok(())
     }
-}
 
-fn set(marks: &mut Vec<bool>, at: usize, mark: bool) {
-    if let Some(place) = marks.get_mut(at) {
-        *place = mark;
+    // Whether the drawing is lawful and its wired pads and bars are those that were entered.
+    fn stands(&self) -> bool {
+        (0..self.board.cells()).all(|cell| {
+            let record = record_at(&self.drawing, cell);
+            record.is_first() == self.wired.contains(&cell)
+                && record.is_barred() == self.barred.contains(&cell)
+        }) && is_lawful(self.board, &self.drawing)
     }
 }
 
@@ -158,31 +149,14 @@ fn show_refusal(heap: Global, refusal: Refusal, report: &[u16]) -> Result<String
 fn list_sorted(heap: Global, report: &[u16], from: u16, count: u16) -> Result<String, AllocError> {
     let mut numbers: Vec<u16> = report
         .iter()
+        .copied()
         .skip(from as usize)
         .take(count as usize)
-        .copied()
         .collect(heap)?;
-    numbers.sort()?;
-    let mut text = String::new(heap);
-    for number in numbers.iter() {
-        if !text.is_empty() {
-            text.push(' ')?;
-        }
-        text.push_str(number.to_string(heap)?.as_str())?;
-    }
-    Ok(text)
-}
-
-// Whether the drawing is lawful and its wired pads and bars are those in the book.
-fn stands<B: Board>(board: &B, drawing: &[Record], book: &Book) -> bool {
-    for cell in 0..board.cells() {
-        let at = cell as usize;
-        let record = record_at(drawing, cell);
-        if record.is_first() != book.wired.get(at).copied().unwrap_or(false)
-            || record.is_barred() != book.barred.get(at).copied().unwrap_or(false)
-        {
-            return false;
-        }
-    }
-    is_lawful(board, drawing)
+    numbers.sort_unstable();
+    let shown: Vec<String> = numbers
+        .iter()
+        .map(|number| number.to_string(heap))
+        .try_collect(heap)?;
+    shown.join(heap, " ")
 }

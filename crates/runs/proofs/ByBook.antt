@@ -1,15 +1,16 @@
 -- The conditions of the calls, said of the drawing that stands and of the book.
-use Rattle.std.proofs.Common.{◌≡◌, ℕ, ◌<◌, Bool, true, false, not, eqb, List, ◌∷◌, length, Ok, Err, Result, sym, refl, ap, ◌∙◌, inl, inr, ⊎_elim}
+use Rattle.std.proofs.Common.{◌≡◌, ℕ, ◌<◌, Bool, true, false, not, eqb, List, ◌∷◌, length, Ok, Err, Result, sym, refl, ap, ◌∙◌, inl, inr, ⊎_elim, arith}
 use Rattle.std.proofs.lemmas.List.{get_or_past}
 use Rattle.std.proofs.lemmas.Bool.{cases_lt, cases_Bool, both_ways, false≢true}
 use Rattle.boards.specs.Meaning.{Meaning}
 use Rattle.boards.specs.Refusals.{Answer}
 use Rattle.linkages.specs.Lists.{Mem, here, there, Within, Same}
+use Rattle.linkages.specs.Paths.{CanBeMet}
 use Rattle.linkages.proofs.Members.{mem_kept, mem_of_kept}
 use Rattle.records.specs.declared.record.Record.{Record}
 use Rattle.records.specs.declared.record.Record.TheVariants.{Free}
 use Rattle.records.specs.Records.{record_at, is_first, is_barred}
-use Rattle.drawings.specs.Nets.{first_at, barred_at, without}
+use Rattle.drawings.specs.Nets.{first_at, barred_at, without, wired, bars}
 use Rattle.drawings.specs.Conditions.{LiftRefused, ClearRefused}
 use Rattle.drawings.proofs.Cells.{kept_below, below_kept}
 use Rattle.linkages.proofs.Fewer.{linkage_for_less}
@@ -22,8 +23,8 @@ use Rattle.runs.proofs.Standing.{Standing}
 -- the same answer under conditions that say the same
 pub answer_by : {X E : Type 0} (number : E → ℕ) (C D : ℕ → Type 0) (A : X → Type 0) → ((n : ℕ) → C n → D n) → ((n : ℕ) → D n → C n) →
     (r : Result X E) → Answer number C A r → Answer number D (λ _. Unit {0}) r
-answer_by number C D A to from (Ok x) a = (λ k h. a.0 k (from k h), tt)
-answer_by number C D A to from (Err e) a = (to (number e) a.0, λ k l h. a.1 k l (from k h))
+answer_by number C D A to from (Ok x) a = grind (arith, to, from)
+answer_by number C D A to from (Err e) a = grind (arith, to, from)
 
 -- without a cell, both or neither
 pub same_without : (c : ℕ) (xs ys : List ℕ) → Same xs ys → Same (without c xs) (without c ys)
@@ -48,7 +49,7 @@ same_at e = (λ c k. rw e at k, λ c k. rw (sym e) at k)
 -- a cell that passes a test which no free cell passes is among those listed
 module _ (d : List Record) (test : Record → Bool) (free : test Free ≡ false) (c : ℕ) where
   inside : test (record_at d c) ≡ true → c < length d
-  inside t = ⊎_elim (λ h. h) (λ h. absurd (false≢true (sym free ∙ (sym (ap test (get_or_past d c Free h)) ∙ t)))) (cases_lt c (length d))
+  inside t = grind (arith, get_or_past d c Free, free)
 
 module _ (m : Meaning) (d : List Record) (b : Book) (S : Standing m d b) (c : ℕ) where
   pub pad_booked : first_at d c ≡ true → Mem c b.pads
@@ -63,79 +64,40 @@ module _ (m : Meaning) (d : List Record) (b : Book) (S : Standing m d b) (c : �
   pub booked_bar : Mem c b.barred → barred_at d c ≡ true
   booked_bar k = (kept_below (barred_at d) (length d) c (S.barred.1 c k)).1
 
-  pad_unbooked : first_at d c ≡ false → Mem c b.pads → ⊥
-  pad_unbooked f k = both_ways (first_at d c) f (booked_pad k)
+  -- what can be met by the book can be met by the drawing, and the other way round
+  place_met : CanBeMet m b.barred (c ∷ b.pads) → CanBeMet m (bars d) (c ∷ wired d)
+  place_met L = linkage_for_less m _ _ _ _ (same_more c _ _ S.pads).0 S.barred.0 L
 
-  unbooked_pad : (Mem c b.pads → ⊥) → first_at d c ≡ false
-  unbooked_pad n = ⊎_elim (λ t. absurd (n (pad_booked t))) (λ f. f) (cases_Bool (first_at d c))
+  place_met_booked : CanBeMet m (bars d) (c ∷ wired d) → CanBeMet m b.barred (c ∷ b.pads)
+  place_met_booked L = linkage_for_less m _ _ _ _ (same_more c _ _ S.pads).1 S.barred.1 L
 
-  bar_unbooked : barred_at d c ≡ false → Mem c b.barred → ⊥
-  bar_unbooked f k = both_ways (barred_at d c) f (booked_bar k)
+  bar_met : CanBeMet m (c ∷ b.barred) b.pads → CanBeMet m (c ∷ bars d) (wired d)
+  bar_met L = linkage_for_less m _ _ _ _ S.pads.0 (same_more c _ _ S.barred).0 L
 
-  unbooked_bar : (Mem c b.barred → ⊥) → barred_at d c ≡ false
-  unbooked_bar n = ⊎_elim (λ t. absurd (n (bar_booked t))) (λ f. f) (cases_Bool (barred_at d c))
+  bar_met_booked : CanBeMet m (c ∷ bars d) (wired d) → CanBeMet m (c ∷ b.barred) b.pads
+  bar_met_booked L = linkage_for_less m _ _ _ _ S.pads.1 (same_more c _ _ S.barred).1 L
 
   module _ (work report : List ℕ) (n : ℕ) where
     pub lift_to_book : LiftRefused m d c n → Refused m b Lift c work report n
-    lift_to_book (inl h) = absurd (h.1 S.lawful.one_each)
-    lift_to_book (inr (inl h)) = absurd (h.1 S.lawful)
-    lift_to_book (inr (inr (inl h))) = inl h
-    lift_to_book (inr (inr (inr (inl h)))) = inr (inl h)
-    lift_to_book (inr (inr (inr (inr h)))) = inr (inr (h.0, pad_unbooked h.1))
+    lift_to_book h = grind (arith, booked_pad, S.lawful, S.lawful.one_each)
 
     pub lift_from_book : Refused m b Lift c work report n → LiftRefused m d c n
-    lift_from_book (inl h) = inr (inr (inl h))
-    lift_from_book (inr (inl h)) = inr (inr (inr (inl h)))
-    lift_from_book (inr (inr h)) = inr (inr (inr (inr (h.0, unbooked_pad h.1))))
+    lift_from_book h = grind (arith, pad_booked)
 
     pub clear_to_book : ClearRefused m d c n → Refused m b Clear c work report n
-    clear_to_book (inl h) = absurd (h.1 S.lawful.one_each)
-    clear_to_book (inr (inl h)) = absurd (h.1 S.lawful)
-    clear_to_book (inr (inr (inl h))) = inl h
-    clear_to_book (inr (inr (inr h))) = inr (h.0, bar_unbooked h.1)
+    clear_to_book h = grind (arith, booked_bar, S.lawful, S.lawful.one_each)
 
     pub clear_from_book : Refused m b Clear c work report n → ClearRefused m d c n
-    clear_from_book (inl h) = inr (inr (inl h))
-    clear_from_book (inr h) = inr (inr (inr (h.0, unbooked_bar h.1)))
+    clear_from_book h = grind (arith, bar_booked)
 
     pub place_to_book : PlaceRefused m d work report c n → Refused m b Place c work report n
-    place_to_book (inl (inl h)) = absurd (h.1 S.lawful.one_each)
-    place_to_book (inl (inr (inl h))) = inl (inl h)
-    place_to_book (inl (inr (inr (inl h)))) = inl (inr h)
-    place_to_book (inl (inr (inr (inr (inl h))))) = absurd (h.1 S.lawful)
-    place_to_book (inl (inr (inr (inr (inr (inl h)))))) = inr (inl h)
-    place_to_book (inl (inr (inr (inr (inr (inr (inl h))))))) = inr (inr (inl h))
-    place_to_book (inl (inr (inr (inr (inr (inr (inr (inl h)))))))) = inr (inr (inr (inl (h.0, pad_booked h.1))))
-    place_to_book (inl (inr (inr (inr (inr (inr (inr (inr h)))))))) = inr (inr (inr (inr (inl (h.0, bar_booked h.1)))))
-    place_to_book (inr h) =
-        inr (inr (inr (inr (inr (h.0, λ L. h.1 (linkage_for_less m _ _ _ _ (same_more c _ _ S.pads).0 S.barred.0 L))))))
+    place_to_book h = grind (arith, pad_booked, bar_booked, place_met, S.lawful, S.lawful.one_each)
 
     pub place_from_book : Refused m b Place c work report n → PlaceRefused m d work report c n
-    place_from_book (inl (inl h)) = inl (inr (inl h))
-    place_from_book (inl (inr h)) = inl (inr (inr (inl h)))
-    place_from_book (inr (inl h)) = inl (inr (inr (inr (inr (inl h)))))
-    place_from_book (inr (inr (inl h))) = inl (inr (inr (inr (inr (inr (inl h))))))
-    place_from_book (inr (inr (inr (inl h)))) = inl (inr (inr (inr (inr (inr (inr (inl (h.0, booked_pad h.1))))))))
-    place_from_book (inr (inr (inr (inr (inl h))))) = inl (inr (inr (inr (inr (inr (inr (inr (h.0, booked_bar h.1))))))))
-    place_from_book (inr (inr (inr (inr (inr h))))) =
-        inr (h.0, λ L. h.1 (linkage_for_less m _ _ _ _ (same_more c _ _ S.pads).1 S.barred.1 L))
+    place_from_book h = grind (arith, booked_pad, booked_bar, place_met_booked)
 
     pub bar_to_book : BarRefused m d work report c n → Refused m b Bar c work report n
-    bar_to_book (inl (inl h)) = absurd (h.1 S.lawful.one_each)
-    bar_to_book (inl (inr (inl h))) = inl (inl h)
-    bar_to_book (inl (inr (inr (inl h)))) = inl (inr h)
-    bar_to_book (inl (inr (inr (inr (inl h))))) = absurd (h.1 S.lawful)
-    bar_to_book (inl (inr (inr (inr (inr (inl h)))))) = inr (inl h)
-    bar_to_book (inl (inr (inr (inr (inr (inr (inl h))))))) = inr (inr (inl (h.0, bar_booked h.1)))
-    bar_to_book (inl (inr (inr (inr (inr (inr (inr h))))))) = inr (inr (inr (inl (h.0, pad_booked h.1))))
-    bar_to_book (inr h) =
-        inr (inr (inr (inr (h.0, λ L. h.1 (linkage_for_less m _ _ _ _ S.pads.0 (same_more c _ _ S.barred).0 L)))))
+    bar_to_book h = grind (arith, pad_booked, bar_booked, bar_met, S.lawful, S.lawful.one_each)
 
     pub bar_from_book : Refused m b Bar c work report n → BarRefused m d work report c n
-    bar_from_book (inl (inl h)) = inl (inr (inl h))
-    bar_from_book (inl (inr h)) = inl (inr (inr (inl h)))
-    bar_from_book (inr (inl h)) = inl (inr (inr (inr (inr (inl h)))))
-    bar_from_book (inr (inr (inl h))) = inl (inr (inr (inr (inr (inr (inl (h.0, booked_bar h.1)))))))
-    bar_from_book (inr (inr (inr (inl h)))) = inl (inr (inr (inr (inr (inr (inr (h.0, booked_pad h.1)))))))
-    bar_from_book (inr (inr (inr (inr h)))) =
-        inr (h.0, λ L. h.1 (linkage_for_less m _ _ _ _ S.pads.1 (same_more c _ _ S.barred).1 L))
+    bar_from_book h = grind (arith, booked_pad, booked_bar, bar_met_booked)

@@ -98,32 +98,18 @@ module _ (m : Meaning) (d : List Record) (b : Book) (S : Standing m d b) where
 -- only place and bar are refused with 12, and then the pads to be met cannot be
 module _ (m : Meaning) (b : Book) (c : ℕ) (work report : List ℕ) where
   pub for_want : (kind : Kind) → Refused m b kind c work report 12 → HasNoWay m kind c b 12 × ((kind ≡ Place) ⊎ (kind ≡ Bar))
-  for_want Place (inl (inl h)) = absurd (omega (arith, h.0))
-  for_want Place (inl (inr h)) = absurd (omega (arith, h.0))
-  for_want Place (inr (inl h)) = absurd (omega (arith, h.0))
-  for_want Place (inr (inr (inl h))) = absurd (omega (arith, h.0))
-  for_want Place (inr (inr (inr (inl h)))) = absurd (omega (arith, h.0))
-  for_want Place (inr (inr (inr (inr (inl h))))) = absurd (omega (arith, h.0))
-  for_want Place (inr (inr (inr (inr (inr h))))) = (h, inl refl)
-  for_want Lift (inl h) = absurd (omega (arith, h.0))
-  for_want Lift (inr (inl h)) = absurd (omega (arith, h.0))
-  for_want Lift (inr (inr h)) = absurd (omega (arith, h.0))
-  for_want Bar (inl (inl h)) = absurd (omega (arith, h.0))
-  for_want Bar (inl (inr h)) = absurd (omega (arith, h.0))
-  for_want Bar (inr (inl h)) = absurd (omega (arith, h.0))
-  for_want Bar (inr (inr (inl h))) = absurd (omega (arith, h.0))
-  for_want Bar (inr (inr (inr (inl h)))) = absurd (omega (arith, h.0))
-  for_want Bar (inr (inr (inr (inr h)))) = (h, inr refl)
-  for_want Clear (inl h) = absurd (omega (arith, h.0))
-  for_want Clear (inr h) = absurd (omega (arith, h.0))
+  for_want Place h = grind arith
+  for_want Lift h = absurd (grind arith)
+  for_want Bar h = grind arith
+  for_want Clear h = absurd (grind arith)
 
 -- so all but one of the pads to be met can be met at every refusal for want of a way
 module _ (m : Meaning) (d : List Record) (b : Book) (S : Standing m d b) (c : ℕ) where
   nearly_by : (kind : Kind) → HasNoWay m kind c b 12 × ((kind ≡ Place) ⊎ (kind ≡ Bar)) → Nearly m (bars_to_meet kind c b) (pads_to_meet kind c b)
   nearly_by Place w = place_nearly m d b S c
   nearly_by Bar w = bar_nearly m d b S c w.0.1
-  nearly_by Lift w = absurd (elim w.1 [ inl e ↦ let z : ◌≡◌ {A = ℕ} 0 1 = cc in omega arith | inr e ↦ let z : ◌≡◌ {A = ℕ} 0 1 = cc in omega arith ])
-  nearly_by Clear w = absurd (elim w.1 [ inl e ↦ let z : ◌≡◌ {A = ℕ} 0 1 = cc in omega arith | inr e ↦ let z : ◌≡◌ {A = ℕ} 0 1 = cc in omega arith ])
+  nearly_by Lift w = elim w.1 [ inl e ↦ cc | inr e ↦ cc ]
+  nearly_by Clear w = elim w.1 [ inl e ↦ cc | inr e ↦ cc ]
 
 refused_12 : (m : Meaning) (e : Event) (g : History) (p k : ℕ) → Upheld m e g → e.answer ≡ Err (NoWay p k) →
     Refused m (book g) e.kind e.cell e.work e.report 12

@@ -1,6 +1,6 @@
 -- The fence in report memory, by the lists that stand there.
 use Rattle.std.proofs.Common.{◌≡◌, ℕ, ◌+◌, List, ◌++◌, length, take, drop, sym, ap, ◌∙◌, subst, append_assoc, arith, length-append}
-use lib.Seq.{take-append_seam, drop-append_seam}
+use Rattle.std.proofs.Math.Seq.{take-append_seam, drop-append_seam}
 use Rattle.boards.specs.Meaning.{Meaning}
 use Rattle.linkages.specs.Lists.{Same}
 use Rattle.linkages.specs.Fences.{Fence}
@@ -27,10 +27,10 @@ module _ (m : Meaning) (b : Book) (e : Event) (bars pads : List ℕ)
       let P = pads_to_meet e.kind e.cell b in
       let rest = drop (length (A ++ X)) e.report in
       let all : e.report_after ≡ A ++ (X ++ rest) = F.writes ∙ append_assoc A X rest in
-      let front : take p e.report_after ≡ A = ap (λ n. take n e.report_after) F.pads_counted ∙ (ap (take (length A)) all ∙ take-append_seam A (X ++ rest)) in
-      let after : drop p e.report_after ≡ X ++ rest = ap (λ n. drop n e.report_after) F.pads_counted ∙ (ap (drop (length A)) all ∙ drop-append_seam A (X ++ rest)) in
-      let back : take k (drop p e.report_after) ≡ X = ap (take k) after ∙ (ap (λ n. take n (X ++ rest)) F.cells_counted ∙ take-append_seam X rest) in
-      let count : p + k ≡ length (A ++ X) = ap (λ n. n + k) F.pads_counted ∙ (ap (λ n. length A + n) F.cells_counted ∙ sym (length-append A X)) in
+      let front : take p e.report_after ≡ A = rw (F.pads_counted, all, take-append_seam) in
+      let after : drop p e.report_after ≡ X ++ rest = rw (F.pads_counted, all, drop-append_seam) in
+      let back : take k (drop p e.report_after) ≡ X = rw (after, F.cells_counted, take-append_seam) in
+      let count : p + k ≡ length (A ++ X) = grind (arith, F.pads_counted, F.cells_counted, length-append A X) in
       record {
         room = omega (arith, count, ap length F.writes, length-append (A ++ X) rest);
         fence =

@@ -32,11 +32,7 @@ use Rattle.runs.proofs.Upheld.{judged, fenced_by}
 -- the first number whose condition holds is the one given
 exactly : (C : ℕ → Type 0) (n : ℕ) (report' : List ℕ) → C n → ((k : ℕ) → k < n → C k → ⊥) → (r : Result ℕ Refusal) →
     Answer number_of C (λ _. Unit {0}) r → Refuses n report' r
-exactly C n report' c low (Ok x) a = a.0 n c
-exactly C n report' c low (Err f) a = ⊎_elim
-    (λ e. e)
-    (⊎_elim (λ h. absurd (low (number_of f) h a.0)) (λ h. absurd (a.1 n h c)))
-    (cases_order (number_of f) n)
+exactly C n report' c low r a = grind (arith, cases_order)
 
 is_no_way : (f : Refusal) → number_of f ≡ 12 → (p : ℕ) × ((k : ℕ) × (f ≡ NoWay p k))
 is_no_way WrongDrawing e = absurd (omega (arith, e))
@@ -113,75 +109,29 @@ only_landing (suc (suc (suc (suc (suc (suc z)))))) e = absurd (false≢true e)
 module _ (work report : List ℕ) (w : 24 ≤ length work) (s : 12 ≤ length report) where
   -- the row, just made
   fresh_0 : (n : ℕ) → Refused row_field empty_book Place 0 work report n → ⊥
-  fresh_0 n (inl (inl h)) = omega (arith, h.1)
-  fresh_0 n (inl (inr h)) = omega (arith, h.1)
-  fresh_0 n (inr (inl h)) = omega (arith, h.1)
-  fresh_0 n (inr (inr (inl h))) = true_false h.1
-  fresh_0 n (inr (inr (inr (inl h)))) = mem_none h.1
-  fresh_0 n (inr (inr (inr (inr (inl h))))) = mem_none h.1
-  fresh_0 n (inr (inr (inr (inr (inr h))))) = h.1 row_example.pad_0_can
+  fresh_0 n h = grind (arith, mem_none, row_example.pad_0_can)
 
   fresh_2 : (k : ℕ) → k < 6 → Refused row_field empty_book Place 2 work report k → ⊥
-  fresh_2 k l (inl (inl h)) = omega (arith, h.1)
-  fresh_2 k l (inl (inr h)) = omega (arith, h.1)
-  fresh_2 k l (inr (inl h)) = omega (arith, h.1)
-  fresh_2 k l (inr (inr (inl h))) = omega (arith, h.0)
-  fresh_2 k l (inr (inr (inr (inl h)))) = omega (arith, h.0)
-  fresh_2 k l (inr (inr (inr (inr (inl h))))) = omega (arith, h.0)
-  fresh_2 k l (inr (inr (inr (inr (inr h))))) = omega (arith, h.0)
+  fresh_2 k l h = grind arith
 
   fresh_6 : (k : ℕ) → k < 5 → Refused row_field empty_book Place 6 work report k → ⊥
-  fresh_6 k l (inl (inl h)) = omega (arith, h.1)
-  fresh_6 k l (inl (inr h)) = omega (arith, h.1)
-  fresh_6 k l (inr (inl h)) = omega (arith, h.0)
-  fresh_6 k l (inr (inr (inl h))) = omega (arith, h.0)
-  fresh_6 k l (inr (inr (inr (inl h)))) = omega (arith, h.0)
-  fresh_6 k l (inr (inr (inr (inr (inl h))))) = omega (arith, h.0)
-  fresh_6 k l (inr (inr (inr (inr (inr h))))) = omega (arith, h.0)
+  fresh_6 k l h = grind arith
 
   -- the row with pad 0 wired
   again_0 : (k : ℕ) → k < 7 → Refused row_field zero_booked Place 0 work report k → ⊥
-  again_0 k l (inl (inl h)) = omega (arith, h.1)
-  again_0 k l (inl (inr h)) = omega (arith, h.1)
-  again_0 k l (inr (inl h)) = omega (arith, h.1)
-  again_0 k l (inr (inr (inl h))) = true_false h.1
-  again_0 k l (inr (inr (inr (inl h)))) = omega (arith, h.0)
-  again_0 k l (inr (inr (inr (inr (inl h))))) = omega (arith, h.0)
-  again_0 k l (inr (inr (inr (inr (inr h))))) = omega (arith, h.0)
+  again_0 k l h = grind arith
 
   before_bar_0 : (k : ℕ) → k < 11 → Refused row_field zero_booked Bar 0 work report k → ⊥
-  before_bar_0 k l (inl (inl h)) = omega (arith, h.1)
-  before_bar_0 k l (inl (inr h)) = omega (arith, h.1)
-  before_bar_0 k l (inr (inl h)) = omega (arith, h.1)
-  before_bar_0 k l (inr (inr (inl h))) = mem_none h.1
-  before_bar_0 k l (inr (inr (inr (inl h)))) = omega (arith, h.0)
-  before_bar_0 k l (inr (inr (inr (inr h)))) = omega (arith, h.0)
+  before_bar_0 k l h = grind (arith, mem_none, mem_one)
 
   before_place_1 : (k : ℕ) → k < 12 → Refused row_field zero_booked Place 1 work report k → ⊥
-  before_place_1 k l (inl (inl h)) = omega (arith, h.1)
-  before_place_1 k l (inl (inr h)) = omega (arith, h.1)
-  before_place_1 k l (inr (inl h)) = omega (arith, h.1)
-  before_place_1 k l (inr (inr (inl h))) = true_false h.1
-  before_place_1 k l (inr (inr (inr (inl h)))) = omega (arith, mem_one h.1)
-  before_place_1 k l (inr (inr (inr (inr (inl h))))) = mem_none h.1
-  before_place_1 k l (inr (inr (inr (inr (inr h))))) = omega (arith, h.0)
+  before_place_1 k l h = grind (arith, mem_none, mem_one)
 
   before_bar_4 : (k : ℕ) → k < 12 → Refused row_field zero_booked Bar 4 work report k → ⊥
-  before_bar_4 k l (inl (inl h)) = omega (arith, h.1)
-  before_bar_4 k l (inl (inr h)) = omega (arith, h.1)
-  before_bar_4 k l (inr (inl h)) = omega (arith, h.1)
-  before_bar_4 k l (inr (inr (inl h))) = mem_none h.1
-  before_bar_4 k l (inr (inr (inr (inl h)))) = omega (arith, mem_one h.1)
-  before_bar_4 k l (inr (inr (inr (inr h)))) = omega (arith, h.0)
+  before_bar_4 k l h = grind (arith, mem_none, mem_one)
 
 one_point_0 : (work report : List ℕ) → 4 ≤ length work → 2 ≤ length report → (k : ℕ) → k < 12 → Refused one_point empty_book Place 0 work report k → ⊥
-one_point_0 work report w s k l (inl (inl h)) = omega (arith, h.1)
-one_point_0 work report w s k l (inl (inr h)) = omega (arith, h.1)
-one_point_0 work report w s k l (inr (inl h)) = omega (arith, h.1)
-one_point_0 work report w s k l (inr (inr (inl h))) = true_false h.1
-one_point_0 work report w s k l (inr (inr (inr (inl h)))) = mem_none h.1
-one_point_0 work report w s k l (inr (inr (inr (inr (inl h))))) = mem_none h.1
-one_point_0 work report w s k l (inr (inr (inr (inr (inr h))))) = omega (arith, h.0)
+one_point_0 work report w s k l h = grind (arith, mem_none)
 
 place_0_answers : Always row_field Place 0 (replicate 6 Free) (λ _ r. r ≡ Ok 5)
 place_0_answers e work work' report report' (Ok z) w s P =

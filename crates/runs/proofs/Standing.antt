@@ -1,5 +1,5 @@
 -- The drawing that stands after an upheld history, and the calls of such a history.
-use Rattle.std.proofs.Common.{◌≡◌, ℕ, List, [], ◌∷◌, get_or, replicate, ⊎_elim}
+use Rattle.std.proofs.Common.{◌≡◌, ℕ, List, [], ◌∷◌, get_or, replicate, ⊎_elim, arith}
 use lib.ListN.{length-replicate, get_or-replicate}
 use Rattle.std.proofs.lemmas.List.{get_or_past}
 use Rattle.std.proofs.lemmas.Bool.{cases_lt}
@@ -24,10 +24,7 @@ empty_same : (xs : List ℕ) → xs ≡ [] → Same xs []
 empty_same xs e = (λ c k. rw e at k, λ c k. absurd (mem_none k))
 
 all_free : (n k : ℕ) → get_or (replicate n Free) k Free ≡ Free
-all_free n k = ⊎_elim
-    (λ h. get_or-replicate n k Free Free h)
-    (λ h. get_or_past (replicate n Free) k Free (rw (length-replicate n Free) h))
-    (cases_lt k n)
+all_free n k = grind (arith, length-replicate, get_or-replicate, get_or_past)
 
 pub standing : (m : Meaning) (h : History) → Upholds m h → Standing m (stands m h) (book h)
 standing m [] u =

@@ -16,11 +16,7 @@ use Rattle.runs.specs.Told.{Performed, EventOf, Told, nothing, then}
 -- the same for other lists that say the same
 pub performs_same : (m : Meaning) (kind : Kind) (c : ℕ) (d e : List Record) (r : Result ℕ Refusal) {work work' report report' v v' s s' : List ℕ} →
     v ≡ work → v' ≡ work' → s ≡ report → s' ≡ report' → Performs m kind c d e v v' s s' r → Performs m kind c d e work work' report report' r
-performs_same m kind c d e r {work} {work'} {report} {report'} {v} {v'} {s} {s'} a b f g P =
-    subst (λ (x : List ℕ). Performs m kind c d e work work' report x r) g
-    (subst (λ (x : List ℕ). Performs m kind c d e work work' x s' r) f
-    (subst (λ (x : List ℕ). Performs m kind c d e work x s s' r) b
-    (subst (λ (x : List ℕ). Performs m kind c d e x v' s s' r) a P)))
+performs_same m kind c d e r a b f g P = rw (a, b, f, g) at P
 
 -- a drawing just made
 free_list : (e : List Record) → ((k : ℕ) → record_at e k ≡ Free) → e ≡ replicate (length e) Free
@@ -48,7 +44,7 @@ module _ (m : Meaning) (d e : List Record) (old xs : List Call) (i : ℕ) (r x :
 
   -- its event
   abbrev pub made : Event
-  made = event call.kind call.cell d e (vec_items call.work) (vec_items x.work) (vec_items call.report) (vec_items x.report) P.answer
+  made = event call.order.kind call.order.cell d e (vec_items call.work) (vec_items x.work) (vec_items call.report) (vec_items x.report) P.answer
 
   here : (q : Call) → EventOf made (get_or old i q) (get_or (set xs i x) i q)
   here q =

@@ -49,17 +49,7 @@ module _ (m : Meaning) (d : List Record) (b : Book) (S : Standing m d b) (c : �
   -- lift and clear are never refused for want of a way
   never : {Q : Type 0} (kind : Kind) (r : Result ℕ Refusal) (p k : ℕ) → ((kind ≡ Place) ⊎ (kind ≡ Bar) → ⊥) →
       Answer number_of (Refused m b kind c work report) (λ _. Unit {0}) r → r ≡ Err (NoWay p k) → Q
-  never kind r p k not-these a g =
-      let twelve = (subst (Answer number_of (Refused m b kind c work report) (λ _. Unit {0})) g a).0 in
-      absurd (not-these (for_want m b c work report kind twelve).1)
-
-  not_lift : (Lift ≡ Place) ⊎ (Lift ≡ Bar) → ⊥
-  not_lift (inl g) = let z : ◌≡◌ {A = ℕ} 0 1 = cc in omega arith
-  not_lift (inr g) = let z : ◌≡◌ {A = ℕ} 0 1 = cc in omega arith
-
-  not_clear : (Clear ≡ Place) ⊎ (Clear ≡ Bar) → ⊥
-  not_clear (inl g) = let z : ◌≡◌ {A = ℕ} 0 1 = cc in omega arith
-  not_clear (inr g) = let z : ◌≡◌ {A = ℕ} 0 1 = cc in omega arith
+  never kind r p k not-these a g = absurd (not-these (for_want m b c work report kind (rw g at a).0).1)
 
   -- a refusal for want of a way shows the fence
   pub fenced_by : (kind : Kind) (r : Result ℕ Refusal) → Performs m kind c d e work work' report report' r → (p k : ℕ) → r ≡ Err (NoWay p k) →
@@ -72,8 +62,8 @@ module _ (m : Meaning) (d : List Record) (b : Book) (S : Standing m d b) (c : �
       let F = subst (λ (x : Result ℕ Refusal). IfErr x (Leaves (Untouched d e work work' report report')
       (Fenced m d e (c ∷ bars d) (wired d) work work' report report'))) g P.1 in
       shows_fence m b (event Bar c d e work work' report report' r) (c ∷ bars d) (wired d) (same_more c _ _ S.barred) S.pads p k F.shown
-  fenced_by Lift r P p k g = never Lift r p k not_lift (judged Lift r P) g
-  fenced_by Clear r P p k g = never Clear r p k not_clear (judged Clear r P) g
+  fenced_by Lift r P p k g = never Lift r p k (λ e. elim e [ inl e ↦ cc | inr e ↦ cc ]) (judged Lift r P) g
+  fenced_by Clear r P p k g = never Clear r p k (λ e. elim e [ inl e ↦ cc | inr e ↦ cc ]) (judged Clear r P) g
 
   -- the drawing after it holds the book that was fed the call
   unchanged : e ≡ d → Standing m e b

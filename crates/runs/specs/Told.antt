@@ -10,16 +10,16 @@ use Rattle.runs.specs.Steps.{Performs}
 
 -- the call a was made, and is b then
 pub record Performed (m : Meaning) (d e : List Record) (a b : Call) : Type 0 where
-  pub kind_kept : b.kind ≡ a.kind
-  pub cell_kept : b.cell ≡ a.cell
+  pub kind_kept : b.order.kind ≡ a.order.kind
+  pub cell_kept : b.order.cell ≡ a.order.cell
   pub answer : Result ℕ Refusal
   pub answered : b.answer ≡ Some answer
-  pub performs : Performs m a.kind a.cell d e (vec_items a.work) (vec_items b.work) (vec_items a.report) (vec_items b.report) answer
+  pub performs : Performs m a.order.kind a.order.cell d e (vec_items a.work) (vec_items b.work) (vec_items a.report) (vec_items b.report) answer
 
 -- the event of a call that was a and is b now
 pub record EventOf (e : Event) (a b : Call) : Type 0 where
-  pub kind : e.kind ≡ a.kind
-  pub cell : e.cell ≡ a.cell
+  pub kind : e.kind ≡ a.order.kind
+  pub cell : e.cell ≡ a.order.cell
   pub work : e.work ≡ vec_items a.work
   pub work_after : e.work_after ≡ vec_items b.work
   pub report : e.report ≡ vec_items a.report

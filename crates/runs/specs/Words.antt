@@ -12,3 +12,7 @@ word_of Clear = codes "clear"
 -- reading a word gives a kind exactly if the word is that kind's
 abbrev pub ReadsKind : List ℕ → Option Kind → Type 0
 ReadsKind word r = (kind : Kind) → (r ≡ Some kind → word ≡ word_of kind) × (word ≡ word_of kind → r ≡ Some kind)
+
+-- what is said of a word by which no call is written
+abbrev pub unknown_word : List ℕ
+unknown_word = codes "no call is written by this word"

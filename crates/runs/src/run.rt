@@ -5,7 +5,7 @@ ghost use Rattle.records.specs.Numbers.{number_of};
 ghost use Rattle.drawings.specs.Conditions.{NewRefused};
 ghost use Rattle.runs.specs.Told.{Performed, Ran};
 
-use crate::calls::Call;
+use crate::calls::{Call, Order};
 use crate::step::step;
 use boards::board::Board;
 use drawings::calls::new;
@@ -19,8 +19,8 @@ pub fn run<B: Board>(board: &B, drawing: &mut [Record], calls: &mut [Call]) -> R
     ensures kept { OnErr result ((drawing.new ≡ drawing.old) × (calls.new ≡ calls.old)) }
 {
     new(board, drawing)?;
-    for i in 0..calls.len() {
-        perform(board, drawing, &mut calls[i]);
+    for call in calls.iter_mut() {
+        perform(board, drawing, call);
     }
     Ok(())
 }
@@ -28,8 +28,7 @@ pub fn run<B: Board>(board: &B, drawing: &mut [Record], calls: &mut [Call]) -> R
 fn perform<B: Board>(board: &B, drawing: &mut [Record], call: &mut Call)
     ensures { Performed (B.meaning board.now) drawing.old drawing.new call.old call.new }
 {
-    let kind = call.kind;
-    let cell = call.cell;
+    let Order { kind, cell } = call.order;
     let answer = step(
         board,
         drawing,

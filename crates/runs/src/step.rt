@@ -13,6 +13,9 @@ use routing::bar::bar;
 use routing::place::place;
 
 // Makes the call. Whatever history upholds the claim and ends in this drawing upholds it with this call as well.
+//
+// The caller lends each memory by itself, and in a job the kind of a call and its cell come from different places, so that each is a
+// parameter of its own.
 pub fn step<B: Board>(
     board: &B,
     drawing: &mut [Record],
@@ -27,20 +30,7 @@ pub fn step<B: Board>(
         Claim (B.meaning board.now) (event kind cell drawing.old drawing.new
         work.old work.new report.old report.new result ∷ h) }
 {
-    dispatch(board, drawing, kind, cell, work, report)
-}
-
-fn dispatch<B: Board>(
-    board: &B,
-    drawing: &mut [Record],
-    kind: Kind,
-    cell: u16,
-    work: &mut [u16],
-    report: &mut [u16],
-) -> Result<u16, Refusal>
-    ensures { Performs (B.meaning board.now) kind cell drawing.old drawing.new
-        work.old work.new report.old report.new result }
-{
+    // The calls take different memory, so a match and no table of closures, which would have to be boxed.
     match kind {
         Kind::Place => place(board, drawing, work, report, cell),
         Kind::Lift => lift(board, drawing, cell),

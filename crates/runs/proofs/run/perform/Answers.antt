@@ -11,7 +11,7 @@ returns g c =
       cell_kept = refl;
       answer = c.step-answer.result;
       answered = refl;
-      performs = performs_same (g.B.Board.meaning c.args.board.now) call.kind call.cell c.args.drawing.now c.step-answer.new.drawing c.step-answer.result
+      performs = performs_same (g.B.Board.meaning c.args.board.now) call.order.kind call.order.cell c.args.drawing.now c.step-answer.new.drawing c.step-answer.result
           c.as_mut_slice.ensures.value
           (sym (with_items_is call.work c.step-answer.new.work (omega (arith, c.step-answer.auto.work, c.as_mut_slice.ensures.len))))
           c.as_mut_slice-2.ensures.value

@@ -1,51 +1,47 @@
-use Rattle.std.proofs.Common.{◌≡◌, ℕ, ◌<◌, [], length, refl, ◌∙◌, subst, arith, length-set}
+use Rattle.std.proofs.Common.{◌≡◌, ℕ, ◌<◌, [], length, refl, subst, arith, rules}
 use Rattle.runs.specs.Told.{Told, nothing}
 use Rattle.runs.proofs.Claiming.{claim_of, upholds_more}
 use Rattle.runs.proofs.Telling.{fresh, told_more, later}
 use Rattle.runs.proofs.run.run.Goals as goal
 
-pub loop-i-init : goal.loop-i-init
-loop-i-init g c = (
-  refl,
-  ([], tt, fresh (g.B.Board.meaning c.args.board.now) c.new.new.drawing c.in_ok-new.field-0 c.in_ok-new.ensures.answer.1, nothing),
-  λ k d h. refl,
-)
+pub loop-call-init : goal.loop-call-init
+loop-call-init g c = record {
+  as_many = refl;
+  history = [];
+  upholds = tt;
+  stands = fresh (g.B.Board.meaning c.args.board.now) c.new.new.drawing c.in_ok-new.field-0 c.in_ok-new.ensures.answer.1;
+  told = nothing;
+  rest = λ k d h. refl;
+}
 
-pub loop-i-preserved : goal.loop-i-preserved
-loop-i-preserved g c =
-    let m = g.B.Board.meaning c.args.board.now in
+pub loop-call-preserved : goal.loop-call-preserved
+loop-call-preserved g c =
     let old = c.args.calls.now in
-    let xs = c.loop-i.calls in
-    let i = c.loop-i.i in
-    let r = c.index-calls-i.result in
-    let x = c.perform.new.call in
-    let inv = c.loop-i.invariant in
-    let h : i < length xs = omega arith in
-    let P = c.perform.ensures in (
-      length-set xs i x ∙ inv.0,
-      (
-        _,
-        upholds_more m inv.1.0 inv.1.1 _ c.loop-i.drawing c.perform.new.drawing _ _ _ _ inv.1.2 _ P.answer P.performs,
-        refl,
-        told_more m c.loop-i.drawing c.perform.new.drawing old xs i r x h P inv.2 inv.1.3,
-      ),
-      later m c.loop-i.drawing c.perform.new.drawing old xs i r x h P inv.2,
-    )
+    let calls = c.loop-call.calls in
+    let made = c.perform.ensures in
+    let here : c.loop-call.call-index < length calls = omega arith in
+    let so_far = c.loop-call.invariant in record {
+      as_many = search rules;
+      history = _;
+      upholds = upholds_more _ _ so_far.upholds _ _ _ _ _ _ _ so_far.stands _ _ made.performs;
+      stands = refl;
+      told = told_more _ _ _ old calls _ c.call-item.result _ here made so_far.rest so_far.told;
+      rest = later _ _ _ old calls _ c.call-item.result _ here made so_far.rest;
+    }
 
 pub returns : goal.returns
 returns g c =
-    let m = g.B.Board.meaning c.args.board.now in
-    let inv = c.loop-i.invariant in
-    let all : c.loop-i.i ≡ length c.args.calls.now = omega (arith, c.loop-i.auto.i-end) in
+    let end = c.loop-call.invariant in
+    let all : c.loop-call.call-index ≡ length c.args.calls.now = omega arith in
     record {
       answer = (
         c.in_ok-new.ensures.answer.0,
         record {
-          history = inv.1.0;
-          told = subst (λ (k : ℕ). Told c.args.calls.now c.loop-i.calls k inv.1.0) all inv.1.3;
-          claim = claim_of m inv.1.0 inv.1.1;
-          ends = inv.1.2;
-          as_many = inv.0;
+          history = end.history;
+          told = subst (λ (k : ℕ). Told c.args.calls.now c.loop-call.calls k end.history) all end.told;
+          claim = claim_of _ end.history end.upholds;
+          ends = end.stands;
+          as_many = end.as_many;
         },
       );
       kept = tt;
