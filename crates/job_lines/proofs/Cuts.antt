@@ -1,11 +1,16 @@
 -- Texts cut at a byte: there is one way to do it.
-use Rattle.std.proofs.Common.{◌≡◌, ℕ, ◌+◌, ◌<◌, List, [], ◌∷◌, ◌++◌, length, get_or, take, drop, sym, refl, ap, ◌∙◌, arith, take-append-drop}
-use Rattle.std.proofs.lemmas.List.{drop_more}
+use Rattle.std.proofs.Common.{◌≡◌, ◌≢◌, ℕ, ◌+◌, ◌-◌, ◌<◌, List, [], ◌∷◌, ◌++◌, length, get_or, take, drop, sym, refl, ap, ◌∙◌, arith, length-take, length-drop, take_all, take-append-drop}
+use Rattle.std.proofs.ByRecursion.{All-from_get_or}
+use Rattle.std.proofs.lemmas.List.{drop_more, get_or-take}
 use Rattle.job_lines.specs.Words.{Lacks}
 
-pub cut_here : (text : List ℕ) (b i : ℕ) → i < length text → get_or text i 0 ≡ b → text ≡ take i text ++ b ∷ drop (i + 1) text
-cut_here text b i h e =
-    sym (take-append-drop i text) ∙ ap (λ (r : List ℕ). take i text ++ r) (drop_more text i 0 h ∙ ap (λ (x : ℕ). x ∷ drop (i + 1) text) e)
+-- a text is cut at the place of its first b
+pub cut_at : (text : List ℕ) (b i : ℕ) → i < length text → get_or text i 0 ≡ b → ((k : ℕ) → k < i → get_or text k 0 ≢ b) →
+    Lacks b (take i text) × (text ≡ take i text ++ b ∷ take (length text - (i + 1)) (drop (i + 1) text))
+cut_at text b i h e before =
+    let front : Lacks b (take i text) = All-from_get_or (λ x. x ≢ b) (take i text) 0 (λ k in'. let k' : k < i = omega (arith, length-take i text) in rw get_or-take (before k k')) in
+    let whole = take_all (length text - (i + 1)) (drop (i + 1) text) (omega (arith, length-drop (i + 1) text)) in
+    (front, rw whole (sym (take-append-drop i text) ∙ ap (λ (r : List ℕ). take i text ++ r) (drop_more text i 0 h ∙ ap (λ (x : ℕ). x ∷ drop (i + 1) text) e)))
 
 -- a text that lacks the byte is not cut by it
 pub no_cut : (b : ℕ) (text front rest : List ℕ) → Lacks b text → text ≡ front ++ b ∷ rest → ⊥

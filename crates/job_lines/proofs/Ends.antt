@@ -1,8 +1,10 @@
 -- The first line of a text.
-use Rattle.std.proofs.Common.{◌≡◌, ℕ, ◌<◌, List, [], ◌∷◌, ◌++◌, length, sym, refl, ap, ◌∙◌, inl, inr, append_assoc, arith, length-append}
+use Rattle.std.proofs.Common.{◌≡◌, ℕ, ◌<◌, List, [], ◌∷◌, ◌++◌, length, Some, None, Option, sym, refl, ap, ◌∙◌, inl, inr, append_assoc, arith, length-append}
 use Rattle.std.proofs.lemmas.Bool.{ne_eqb, cond-false}
+use Rattle.std.specs.Borrow.{Bor}
+use Rattle.std.specs.Option.{unwrap_or}
 use Rattle.std.specs.List.{AllByRecursion}
-use Rattle.job_lines.specs.Words.{Lacks}
+use Rattle.job_lines.specs.Words.{Lacks, Cut}
 use Rattle.job_lines.specs.Lines.{begins, lines_of, FirstLine, ended, LinesComeBack}
 
 pub lines_cut : (line rest : List ℕ) → Lacks 10 line → lines_of (line ++ 10 ∷ rest) ≡ line ∷ lines_of rest
@@ -31,6 +33,12 @@ first_of_one (b ∷ text) line rest some h e k = record {
   first = rw (e, k) (lines_whole b text h);
   shorter = omega (arith, ap length k);
 }
+
+-- what `next_line` makes of a cut
+pub first_of : (text : List ℕ) (parts : Option (Bor (List ℕ) × Bor (List ℕ))) (whole : Bor (List ℕ) × Bor (List ℕ)) → 0 < length text → Cut 10 text parts →
+    whole.0.now ≡ text → whole.1.now ≡ [] → FirstLine text (unwrap_or parts whole).0.now (unwrap_or parts whole).1.now
+first_of text (Some p) whole some cut e k = first_of_more text p.0.now p.1.now cut.0 cut.1
+first_of text None whole some cut e k = first_of_one text whole.0.now whole.1.now some cut e k
 
 ended_lines : (lines : List (List ℕ)) → AllByRecursion (Lacks 10) lines → lines_of (ended lines) ≡ lines
 ended_lines [] h = refl

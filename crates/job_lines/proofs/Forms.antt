@@ -1,5 +1,6 @@
 -- What follows the first word, form by form.
 use Rattle.std.proofs.Common.{◌≡◌, ℕ, cond, List, ◌∷◌, ◌++◌, Some, None, decimal, Option, sym, refl, ap, ◌∙◌, subst, arith}
+use Rattle.std.specs.Option.{option_map}
 use Rattle.std.specs.Str.{bytes_eq}
 use Rattle.std.proofs.lemmas.Fmt.{decimal_injective}
 use Rattle.job_lines.specs.declared.verb.Verb.{Verb}
@@ -12,7 +13,7 @@ use Rattle.job_lines.proofs.Cuts.{same_parts, one_cut}
 use Rattle.job_lines.proofs.Spaceless.{keyword_lacks, number_lacks, name_lacks}
 
 -- what is to be read after a verb
-abbrev Rest : Verb → Type 0
+abbrev pub Rest : Verb → Type 0
 Rest Field = ℕ × ℕ
 Rest Escape = ℕ × ℕ
 Rest Pad = List ℕ × ℕ × ℕ
@@ -24,7 +25,7 @@ Rest Bar = ℕ × ℕ × ℕ
 Rest Clear = ℕ × ℕ × ℕ
 Rest Show = List ℕ
 
-abbrev Fits : (v : Verb) → Rest v → Type 0
+abbrev pub Fits : (v : Verb) → Rest v → Type 0
 Fits Field = Point
 Fits Escape = Point
 Fits Pad = PadPoint
@@ -36,7 +37,7 @@ Fits Bar = Cell
 Fits Clear = Cell
 Fits Show = Name
 
-abbrev text_of : (v : Verb) → Rest v → List ℕ
+abbrev pub text_of : (v : Verb) → Rest v → List ℕ
 text_of Field = point_text
 text_of Escape = point_text
 text_of Pad = pad_text
@@ -85,12 +86,41 @@ texts (bar l r c) = refl
 texts (clear l r c) = refl
 texts (show n) = refl
 
--- where nothing is read after a verb, no line of that verb has this rest
-pub no_rest : (verb v : Verb) (text : List ℕ) → verb ≡ v → ((x : Rest v) → Fits v x → text ≡ text_of v x → ⊥)
-    → (f : Form) → (verb_of f ≡ verb) × WellFormed f → text ≡ rest_of f → ⊥
-no_rest verb v text is none f h e =
+-- the line of a verb and what follows it
+abbrev pub made : (v : Verb) → Rest v → Form
+made Field = λ x. field x.0 x.1
+made Escape = λ x. escape x.0 x.1
+made Pad = λ x. pad x.0 x.1 x.2
+made Land = λ x. land x.0 x.1
+made Keep = λ x. keep x.0 x.1 x.2
+made Place = λ x. place x
+made Lift = λ x. lift x
+made Bar = λ x. bar x.0 x.1 x.2
+made Clear = λ x. clear x.0 x.1 x.2
+made Show = λ x. show x
+
+-- which has that verb and that rest
+made_of : (v : Verb) (x : Rest v) → Fits v x → (verb_of (made v x) ≡ v) × WellFormed (made v x) × (text_of v x ≡ rest_of (made v x))
+made_of Field x h = (refl, h, refl)
+made_of Escape x h = (refl, h, refl)
+made_of Pad x h = (refl, h, refl)
+made_of Land x h = (refl, h, refl)
+made_of Keep x h = (refl, h, refl)
+made_of Place x h = (refl, h, refl)
+made_of Lift x h = (refl, h, refl)
+made_of Bar x h = (refl, h, refl)
+made_of Clear x h = (refl, h, refl)
+made_of Show x h = (refl, h, refl)
+
+-- what is read after a verb is the rest of a line of that verb
+pub rest_read : (verb v : Verb) (text : List ℕ) (x : Option (Rest v)) (r : Option Form) → verb ≡ v → Reads (Fits v) (text_of v) text x → r ≡ option_map (made v) x →
+    Reads (λ f. (verb_of f ≡ verb) × WellFormed f) rest_of text r
+rest_read verb v text (Some x) r is h e =
+    let m = made_of v x h.0 in
+    rw e ((m.0 ∙ sym is, m.1), h.1 ∙ m.2)
+rest_read verb v text None r is h e = rw e (λ f k t.
     let P : Verb → Type 0 = λ u. (x : Rest u) → Fits u x → text ≡ text_of u x → ⊥ in
-    subst P (sym (h.0 ∙ is)) none (parts f) (fits f h.1) (e ∙ texts f)
+    subst P (sym (k.0 ∙ is)) h (parts f) (fits f k.1) (t ∙ texts f))
 
 -- a line is its verb, a space and the rest
 pub spelled_is : (f : Form) → spelled f ≡ keyword (verb_of f) ++ 32 ∷ rest_of f
@@ -133,6 +163,12 @@ named Show = refl
 -- one verb to a keyword
 one_verb : (v w : Verb) → keyword v ≡ keyword w → v ≡ w
 one_verb v w e = sym (named v) ∙ ap verb_named e ∙ named w
+
+-- where a line's first word is no verb, it is no spelling of a well-formed line
+pub line_unread : (bytes word rest : List ℕ) → Lacks 32 word × (bytes ≡ word ++ 32 ∷ rest) → ((v : Verb) → word ≡ keyword v → ⊥) →
+    (f : Form) → WellFormed f → bytes ≡ spelled f → ⊥
+line_unread bytes word rest h unknown f fit s =
+    unknown (verb_of f) (same_parts 32 bytes word rest (keyword (verb_of f)) (rest_of f) h (keyword_lacks (verb_of f)) (s ∙ spelled_is f)).0
 
 -- a line is read where its verb and its rest are
 pub line_read : (bytes word rest : List ℕ) (v : Verb) (r : Option Form) → Lacks 32 word × (bytes ≡ word ++ 32 ∷ rest) → word ≡ keyword v
@@ -191,19 +227,6 @@ same_rest Lift = λ x y h k e. e
 same_rest Bar = same_cell
 same_rest Clear = same_cell
 same_rest Show = λ x y h k e. e
-
--- the line of a verb and what follows it
-abbrev made : (v : Verb) → Rest v → Form
-made Field = λ x. field x.0 x.1
-made Escape = λ x. escape x.0 x.1
-made Pad = λ x. pad x.0 x.1 x.2
-made Land = λ x. land x.0 x.1
-made Keep = λ x. keep x.0 x.1 x.2
-made Place = λ x. place x
-made Lift = λ x. lift x
-made Bar = λ x. bar x.0 x.1 x.2
-made Clear = λ x. clear x.0 x.1 x.2
-made Show = λ x. show x
 
 made_parts : (f : Form) → made (verb_of f) (parts f) ≡ f
 made_parts (field r c) = refl
