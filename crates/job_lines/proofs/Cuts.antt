@@ -14,8 +14,8 @@ cut_at text b i h e before =
 
 -- a text that lacks the byte is not cut by it
 pub no_cut : (b : ℕ) (text front rest : List ℕ) → Lacks b text → text ≡ front ++ b ∷ rest → ⊥
-no_cut b [] [] rest h e = let z : ◌≡◌ {A = ℕ} 0 1 = cc in omega arith
-no_cut b [] (y ∷ front) rest h e = let z : ◌≡◌ {A = ℕ} 0 1 = cc in omega arith
+no_cut b [] [] rest h e = cc
+no_cut b [] (y ∷ front) rest h e = cc
 no_cut b (x ∷ text) [] rest h e = h.0 (cc)
 no_cut b (x ∷ text) (y ∷ front) rest h e = no_cut b text front rest h.1 (cc)
 
@@ -25,11 +25,8 @@ one_cut b [] rest [] rest' h k e = (refl, cc)
 one_cut b [] rest (y ∷ front') rest' h k e = absurd (k.0 (cc))
 one_cut b (x ∷ front) rest [] rest' h k e = absurd (h.0 (cc))
 one_cut b (x ∷ front) rest (y ∷ front') rest' h k e =
-    let t : front ++ b ∷ rest ≡ front' ++ b ∷ rest' = cc in
-    let both = one_cut b front rest front' rest' h.1 k.1 t in
-    let e₀ = both.0 in
-    let e₁ : x ≡ y = cc in
-    (cc, both.1)
+    let both = one_cut b front rest front' rest' h.1 k.1 (cc) in
+    (cc both.0, both.1)
 
 -- the parts of a cut are those of any other writing that is cut by the byte
 pub same_parts : (b : ℕ) (text word rest front back : List ℕ) → Lacks b word × (text ≡ word ++ b ∷ rest) → Lacks b front → text ≡ front ++ b ∷ back → (word ≡ front) × (rest ≡ back)

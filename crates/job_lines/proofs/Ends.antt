@@ -26,7 +26,7 @@ first_of_more text line rest h e = record {
 
 -- a text with none
 pub first_of_one : (text line rest : List ℕ) → 0 < length text → Lacks 10 text → line ≡ text → rest ≡ [] → FirstLine text line rest
-first_of_one [] line rest some h e k = let z : ⊥ = omega arith in absurd z
+first_of_one [] line rest some h e k = absurd (omega arith)
 first_of_one (b ∷ text) line rest some h e k = record {
   whole = rw e h;
   parts = inr (sym e, k);
@@ -45,7 +45,7 @@ ended_lines [] h = refl
 ended_lines (line ∷ lines) h = lines_cut line (ended lines) h.0 ∙ ap (λ (ls : List (List ℕ)). line ∷ ls) (ended_lines lines h.1)
 
 one_line : (last : List ℕ) → Lacks 10 last → 0 < length last → lines_of last ≡ last ∷ []
-one_line [] k some = let z : ⊥ = omega arith in absurd z
+one_line [] k some = absurd (omega arith)
 one_line (b ∷ last) k some = lines_whole b last k
 
 open_lines : (lines : List (List ℕ)) (last : List ℕ) → AllByRecursion (Lacks 10) lines → Lacks 10 last → 0 < length last → lines_of (ended lines ++ last) ≡ lines ++ last ∷ []

@@ -30,7 +30,7 @@ keyword_lacks Bar = search rules
 keyword_lacks Clear = search rules
 keyword_lacks Show = search rules
 
--- which is UTF-8
+-- the first words are UTF-8
 pub keyword_utf8 : (v : Verb) → IsUtf8 (keyword v)
 keyword_utf8 Field = search rules
 keyword_utf8 Escape = search rules

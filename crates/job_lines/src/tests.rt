@@ -4,7 +4,7 @@ use crate::lines::next_line;
 use crate::read::read_line;
 use crate::words::{is_name, read_number};
 
-// The name in a text; none if it is no line, or a line without a name.
+// The name in a text; empty if it is no line, or a line without a name.
 fn name_in(text: &str) -> &[u8] {
     match read_line(text.as_bytes()) {
         Some(Line::Pad { name, .. } | Line::Place(name) | Line::Lift(name) | Line::Show(name)) =>

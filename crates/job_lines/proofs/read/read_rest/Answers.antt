@@ -9,6 +9,9 @@ returns-in-Field c = rest_read _ Field _ _ _ c.in-Field.is c.read_point.ensures 
 pub returns-in-Escape : goal.returns-in-Escape
 returns-in-Escape c = rest_read _ Escape _ _ _ c.in-Escape.is c.read_point-in-Escape.ensures (search rules)
 
+pub returns-in-Pad : goal.returns-in-Pad
+returns-in-Pad c = rest_read _ Pad _ _ _ c.in-Pad.is c.read_pad.ensures (search rules)
+
 pub returns-in-Land : goal.returns-in-Land
 returns-in-Land c = rest_read _ Land _ _ _ c.in-Land.is c.read_point-in-Land.ensures (search rules)
 
@@ -20,6 +23,3 @@ returns-in-Bar c = rest_read _ Bar _ _ _ c.in-Bar.is c.read_cell-in-Bar.ensures 
 
 pub returns-in-Clear : goal.returns-in-Clear
 returns-in-Clear c = rest_read _ Clear _ _ _ c.in-Clear.is c.read_cell-in-Clear.ensures (search rules)
-
-pub returns-in-Pad : goal.returns-in-Pad
-returns-in-Pad c = rest_read _ Pad _ _ _ c.in-Pad.is c.read_pad.ensures (search rules)
