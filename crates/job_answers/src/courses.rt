@@ -1,5 +1,5 @@
 // The course of a net in letters.
-ghost use Rattle.std.specs.Prelude.{◌≡◌, ◌+◌, IfOk, vec_items, Decides};
+ghost use Rattle.std.specs.Prelude.{◌≡◌, IfOk, vec_items};
 ghost use Rattle.std.specs.Option.{option_map};
 ghost use Rattle.job_answers.specs.Courses.{letter, StepBetween, CellStep, Letters, CoursesAgree};
 
@@ -15,15 +15,15 @@ pub fn course<B: PlacedBoard>(
 ) -> Result<Option<Vec<u8>>, AllocError>
     ensures { IfOk result (λ o. Letters (B.PlacedBoard.places board.now) cells.now (option_map vec_items o)) }
 {
-    let mut letters = Vec::new(heap);
-    if cells.len() == 0 {
+    let Some((_, later)) = cells.split_first() else {
         return Ok(None);
-    }
-    for i in 0..cells.len() - 1 {
-        match step_from(board, cells[i], cells[i + 1]) {
-            Some(step) => letters.push(letter_of(step))?,
-            None => return Ok(None),
-        }
+    };
+    let mut letters = Vec::new(heap);
+    for (from, to) in cells.iter().zip(later) {
+        let Some(step) = step_from(board, *from, *to) else {
+            return Ok(None);
+        };
+        letters.push(letter_of(step))?;
     }
     Ok(Some(letters))
 }
@@ -32,44 +32,25 @@ pub fn course<B: PlacedBoard>(
 fn step_from<B: PlacedBoard>(board: &B, from: u16, to: u16) -> Option<Step>
     ensures { CellStep (B.PlacedBoard.places board.now) from to result }
 {
-    let here = board.place(from)?;
-    let there = board.place(to)?;
-    step_between(here, there)
+    step_between(board.place(from)?, board.place(to)?)
 }
 
 // The step that leads from a place to another.
 pub fn step_between(from: Place, to: Place) -> Option<Step>
     ensures { StepBetween from to result }
 {
-    let same_layer = from.layer == to.layer;
-    let same_row = from.row == to.row;
-    let same_column = from.column == to.column;
-    if same_layer && same_column && is_next(to.row, from.row) {
-        return Some(Step::North);
+    let layers = i32::from(to.layer) - i32::from(from.layer);
+    let rows = i32::from(to.row) - i32::from(from.row);
+    let columns = i32::from(to.column) - i32::from(from.column);
+    match (layers, rows, columns) {
+        (0, -1, 0) => Some(Step::North),
+        (0, 0, 1) => Some(Step::East),
+        (0, 1, 0) => Some(Step::South),
+        (0, 0, -1) => Some(Step::West),
+        (1, 0, 0) => Some(Step::Down),
+        (-1, 0, 0) => Some(Step::Up),
+        _ => None,
     }
-    if same_layer && same_row && is_next(from.column, to.column) {
-        return Some(Step::East);
-    }
-    if same_layer && same_column && is_next(from.row, to.row) {
-        return Some(Step::South);
-    }
-    if same_layer && same_row && is_next(to.column, from.column) {
-        return Some(Step::West);
-    }
-    if same_row && same_column && is_next(from.layer, to.layer) {
-        return Some(Step::Down);
-    }
-    if same_row && same_column && is_next(to.layer, from.layer) {
-        return Some(Step::Up);
-    }
-    None
-}
-
-// Whether the second number is the one after the first.
-fn is_next(a: u16, b: u16) -> bool
-    ensures { Decides result (a + 1 ≡ b) }
-{
-    a as u32 + 1 == b as u32
 }
 
 // The letter of a step.

@@ -10,17 +10,15 @@ use std::alloc::{AllocError, Global};
 pub fn answer_line(heap: Global, answer: Result<u16, Refusal>) -> Result<Vec<u8>, AllocError>
     ensures { IfOk result (λ v. v.items ≡ answer_line answer) }
 {
-    let refusal = match answer {
-        Ok(number) => {
-            let text = format!(in heap; "ok {number}\n")?;
-            return Ok(text.into_bytes());
+    let text = match answer {
+        Ok(number) => format!(in heap; "ok {number}\n")?,
+        Err(refusal) => {
+            let number = refusal.number();
+            match refusal {
+                Refusal::NoWay { pads, cells } => format!(in heap; "no {number} {pads} {cells}\n")?,
+                _ => format!(in heap; "no {number}\n")?,
+            }
         }
-        Err(refusal) => refusal,
-    };
-    let number = refusal.number();
-    let text = match refusal {
-        Refusal::NoWay { pads, cells } => format!(in heap; "no {number} {pads} {cells}\n")?,
-        _ => format!(in heap; "no {number}\n")?,
     };
     Ok(text.into_bytes())
 }
@@ -29,11 +27,7 @@ pub fn answer_line(heap: Global, answer: Result<u16, Refusal>) -> Result<Vec<u8>
 pub fn show_line(heap: Global, name: &[u8], letters: &[u8]) -> Result<Vec<u8>, AllocError>
     ensures { IfOk result (λ v. v.items ≡ show_line name.now letters.now) }
 {
-    let mut text = Vec::from_slice(heap, name)?;
-    text.push(b' ')?;
-    text.extend_from_slice(letters)?;
-    text.push(b'\n')?;
-    Ok(text)
+    [name, b" ", letters, b"\n"].concat(heap)
 }
 
 // `fault`, the number of the line, the word for the layer, and the number of the fault.

@@ -1,5 +1,5 @@
 -- Words: numbers, names, and the cutting of a text at a byte.
-use Rattle.std.specs.Prelude.{◌≡◌, ℕ, ◌<◌, ◌≤◌, ◌⊎◌, List, ◌∷◌, ◌++◌, length, Some, None, Option, ◌≢◌}
+use Rattle.std.specs.Prelude.{◌≡◌, ℕ, ◌<◌, ◌≤◌, ◌⊎◌, List, ◌∷◌, ◌++◌, length, Some, None, codes, Option, ◌≢◌, slice_index}
 use Rattle.std.specs.Borrow.{Bor}
 use Rattle.std.specs.List.{AllByRecursion}
 
@@ -21,6 +21,10 @@ Reads {X} Fit written text None = (x : X) → Fit x → text ≢ written x
 -- numbers have at most four digits
 abbrev pub Number : ℕ → Type 0
 Number n = n < 10000
+
+-- the word begins with a digit, and with 0 only if it is 0
+abbrev pub StartsNumber : List ℕ → Type 0
+StartsNumber word = (word ≡ codes "0") ⊎ ((49 ≤ slice_index word 0) × (slice_index word 0 ≤ 57))
 
 -- a capital letter or a digit
 abbrev pub NameByte : ℕ → Type 0

@@ -5,17 +5,17 @@ ghost use Rattle.job_lines.specs.Faults.{fault_number, layer_word};
 #[derive(Clone, Copy, PartialEq, Eq, Debug)]
 pub enum LineFault {
     // The line has none of the ten forms.
-    NoForm,
+    NoForm = 17,
     // The line is out of its place, or one pad too many.
-    OutOfPlace,
+    OutOfPlace = 19,
     // A name that no pad has, a name given twice, or a second pad on one point.
-    Names,
+    Names = 18,
     // The rows or columns are not allowed.
-    Sides,
+    Sides = 13,
     // A point is off the board.
-    OffBoard,
+    OffBoard = 16,
     // Too little output memory would remain after the answer.
-    Full,
+    Full = 20,
 }
 
 impl LineFault {
@@ -23,14 +23,7 @@ impl LineFault {
     pub fn number(self) -> u8
         ensures { result ≡ fault_number self }
     {
-        match self {
-            LineFault::NoForm => 17,
-            LineFault::OutOfPlace => 19,
-            LineFault::Names => 18,
-            LineFault::Sides => 13,
-            LineFault::OffBoard => 16,
-            LineFault::Full => 20,
-        }
+        self as u8
     }
 
     // The word for the layer that finds the fault: the text of the job, or the board that it describes.
@@ -38,12 +31,8 @@ impl LineFault {
         ensures { result.now ≡ layer_word self }
     {
         match self {
-            LineFault::Sides => "board",
-            LineFault::OffBoard => "board",
-            LineFault::NoForm => "text",
-            LineFault::OutOfPlace => "text",
-            LineFault::Names => "text",
-            LineFault::Full => "text",
+            LineFault::Sides | LineFault::OffBoard => "board",
+            _ => "text",
         }
     }
 }

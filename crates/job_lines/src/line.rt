@@ -1,5 +1,5 @@
 // A line of a job, in one of the ten forms. The names of pads are parts of the job's text.
-#[derive(Clone, Copy)]
+#[derive(Clone, Copy, PartialEq, Eq, Debug)]
 pub enum Line<'a> {
     // `field R C` and `escape R C`: the board, by its rows and columns.
     Field {

@@ -5,7 +5,7 @@ ghost use Rattle.job_lines.specs.Grammar.{ReadsLine, SpellingsDiffer};
 ghost use Rattle.job_lines.specs.Rests.{Point, point_text, Cell, cell_text, PadPoint, pad_text, pad_of, ReadsRest};
 
 use crate::line::Line;
-use crate::verb::{Verb, read_verb};
+use crate::verb::Verb;
 use crate::words::{cut, is_name, read_number};
 
 // The line that the bytes spell, without its LF; none if they spell no well-formed line.
@@ -13,7 +13,7 @@ pub fn read_line<'a>(bytes: &'a [u8]) -> Option<Line<'a>>
     ensures { ReadsLine bytes.now result }
 {
     let (word, rest) = cut(bytes, b' ')?;
-    let verb = read_verb(word)?;
+    let verb = str::from_utf8(word).ok()?.parse::<Verb>().ok()?;
     read_rest(verb, rest)
 }
 
@@ -29,57 +29,29 @@ fn read_rest<'a>(verb: Verb, text: &'a [u8]) -> Option<Line<'a>>
     ensures { ReadsRest verb text.now result }
 {
     match verb {
-        Verb::Field => {
-            let (rows, columns) = read_point(text)?;
-            Some(Line::Field { rows, columns })
-        }
-        Verb::Escape => {
-            let (rows, columns) = read_point(text)?;
-            Some(Line::Escape { rows, columns })
-        }
-        Verb::Pad => {
-            let (name, row, column) = read_pad(text)?;
-            Some(Line::Pad { name, row, column })
-        }
-        Verb::Land => {
-            let (row, column) = read_point(text)?;
-            Some(Line::Land { row, column })
-        }
+        Verb::Field => read_point(text).map(|(rows, columns)| Line::Field { rows, columns }),
+        Verb::Escape => read_point(text).map(|(rows, columns)| Line::Escape { rows, columns }),
+        Verb::Pad => read_pad(text).map(|(name, row, column)| Line::Pad { name, row, column }),
+        Verb::Land => read_point(text).map(|(row, column)| Line::Land { row, column }),
         Verb::Keep => {
-            let (layer, row, column) = read_cell(text)?;
-            Some(Line::Keep { layer, row, column })
+            read_cell(text).map(|(layer, row, column)| Line::Keep { layer, row, column })
         }
-        Verb::Place => {
-            let name = read_name(text)?;
-            Some(Line::Place(name))
-        }
-        Verb::Lift => {
-            let name = read_name(text)?;
-            Some(Line::Lift(name))
-        }
-        Verb::Bar => {
-            let (layer, row, column) = read_cell(text)?;
-            Some(Line::Bar { layer, row, column })
-        }
+        Verb::Place => read_name(text).map(Line::Place),
+        Verb::Lift => read_name(text).map(Line::Lift),
+        Verb::Bar => read_cell(text).map(|(layer, row, column)| Line::Bar { layer, row, column }),
         Verb::Clear => {
-            let (layer, row, column) = read_cell(text)?;
-            Some(Line::Clear { layer, row, column })
+            read_cell(text).map(|(layer, row, column)| Line::Clear { layer, row, column })
         }
-        Verb::Show => {
-            let name = read_name(text)?;
-            Some(Line::Show(name))
-        }
+        Verb::Show => read_name(text).map(Line::Show),
     }
 }
 
-// Two numbers.
+// Two numbers: rows and columns, or a row and a column, as the line that they belong to names them.
 fn read_point(text: &[u8]) -> Option<(u16, u16)>
     ensures { Reads Point point_text text.now result }
 {
     let (first, rest) = cut(text, b' ')?;
-    let row = read_number(first)?;
-    let column = read_number(rest)?;
-    Some((row, column))
+    Some((read_number(first)?, read_number(rest)?))
 }
 
 // Three numbers.
@@ -96,10 +68,11 @@ fn read_cell(text: &[u8]) -> Option<(u16, u16, u16)>
 fn read_name<'a>(text: &'a [u8]) -> Option<&'a [u8]>
     ensures { Reads Name (λ name. name) text.now (option_map (λ x. x.now) result) }
 {
-    if is_name(text) { Some(text) } else { None }
+    is_name(text).then_some(text)
 }
 
-// A name and two numbers.
+// A name and two numbers. This and `read_cell` stay two functions: over a reader of the first word, one function's contract would be
+// longer than both.
 fn read_pad<'a>(text: &'a [u8]) -> Option<(&'a [u8], u16, u16)>
     ensures { Reads PadPoint pad_text text.now (option_map pad_of result) }
 {

@@ -4,42 +4,11 @@ use crate::lines::next_line;
 use crate::read::read_line;
 use crate::words::{is_name, read_number};
 
-// What a text says: the number of its form, from 1, and its numbers, with 0 for those that the form lacks; 0 if it is no line.
-fn says(text: &str) -> (u8, u16, u16, u16) {
-    match read_line(text.as_bytes()) {
-        None => (0, 0, 0, 0),
-        Some(Line::Field { rows, columns }) => (1, 0, rows, columns),
-        Some(Line::Escape { rows, columns }) => (2, 0, rows, columns),
-        Some(
-            Line::Pad {
-                name: _,
-                row,
-                column,
-            },
-        ) => (3, 0, row, column),
-        Some(Line::Land { row, column }) => (4, 0, row, column),
-        Some(Line::Keep { layer, row, column }) => (5, layer, row, column),
-        Some(Line::Place(_)) => (6, 0, 0, 0),
-        Some(Line::Lift(_)) => (7, 0, 0, 0),
-        Some(Line::Bar { layer, row, column }) => (8, layer, row, column),
-        Some(Line::Clear { layer, row, column }) => (9, layer, row, column),
-        Some(Line::Show(_)) => (10, 0, 0, 0),
-    }
-}
-
-// The name in a text; none if it is no line, or a line without a name.
+// The name in a text; empty if it is no line, or a line without a name.
 fn name_in(text: &str) -> &[u8] {
     match read_line(text.as_bytes()) {
-        Some(
-            Line::Pad {
-                name,
-                row: _,
-                column: _,
-            },
-        ) => name,
-        Some(Line::Place(name)) => name,
-        Some(Line::Lift(name)) => name,
-        Some(Line::Show(name)) => name,
+        Some(Line::Pad { name, .. } | Line::Place(name) | Line::Lift(name) | Line::Show(name)) =>
+            name,
         _ => b"",
     }
 }
@@ -47,20 +16,66 @@ fn name_in(text: &str) -> &[u8] {
 #[test]
 fn good_lines(rt: HostRuntime) {
     let cases = [
-        ("field 1 3", (1, 0, 1, 3)),
-        ("field 0 9999", (1, 0, 0, 9999)),
-        ("escape 64 32", (2, 0, 64, 32)),
-        ("pad A 10 100", (3, 0, 10, 100)),
-        ("land 0 2", (4, 0, 0, 2)),
-        ("keep 2 0 1", (5, 2, 0, 1)),
-        ("place A", (6, 0, 0, 0)),
-        ("lift 00", (7, 0, 0, 0)),
-        ("bar 2 0 1", (8, 2, 0, 1)),
-        ("clear 1234 5678 9012", (9, 1234, 5678, 9012)),
-        ("show PAD", (10, 0, 0, 0)),
+        (
+            "field 1 3",
+            Line::Field {
+                rows: 1,
+                columns: 3,
+            },
+        ),
+        (
+            "field 0 9999",
+            Line::Field {
+                rows: 0,
+                columns: 9999,
+            },
+        ),
+        (
+            "escape 64 32",
+            Line::Escape {
+                rows: 64,
+                columns: 32,
+            },
+        ),
+        (
+            "pad A 10 100",
+            Line::Pad {
+                name: b"A",
+                row: 10,
+                column: 100,
+            },
+        ),
+        ("land 0 2", Line::Land { row: 0, column: 2 }),
+        (
+            "keep 2 0 1",
+            Line::Keep {
+                layer: 2,
+                row: 0,
+                column: 1,
+            },
+        ),
+        ("place A", Line::Place(b"A")),
+        ("lift 00", Line::Lift(b"00")),
+        (
+            "bar 2 0 1",
+            Line::Bar {
+                layer: 2,
+                row: 0,
+                column: 1,
+            },
+        ),
+        (
+            "clear 1234 5678 9012",
+            Line::Clear {
+                layer: 1234,
+                row: 5678,
+                column: 9012,
+            },
+        ),
+        ("show PAD", Line::Show(b"PAD")),
     ];
-    for (text, said) in cases {
-        assert!(rt; says(text) == said, "{}", text);
+    for (text, line) in cases {
+        assert!(rt; read_line(text.as_bytes()) == Some(line), "{}", text);
     }
 }
 
@@ -117,10 +132,7 @@ fn words(rt: HostRuntime) {
 
 // Whether the text begins with this line, and this is left after it.
 fn begins(text: &str, first: &str, rest: &str) -> bool {
-    match next_line(text.as_bytes()) {
-        Some((line, more)) => line == first.as_bytes() && more == rest.as_bytes(),
-        None => false,
-    }
+    next_line(text.as_bytes()) == Some((first.as_bytes(), rest.as_bytes()))
 }
 
 #[test]

@@ -1,8 +1,10 @@
 // The first word of a line.
+ghost use Rattle.std.specs.Result.{result_ok};
 ghost use Rattle.job_lines.specs.Words.{Reads};
 ghost use Rattle.job_lines.specs.Verbs.{AnyVerb, keyword};
 
-use crate::words::same;
+use crate::faults::LineFault;
+use std::str::FromStr;
 
 #[derive(Clone, Copy)]
 pub(crate) enum Verb {
@@ -18,39 +20,25 @@ pub(crate) enum Verb {
     Show,
 }
 
-// The verb that a word spells.
-pub(crate) fn read_verb(word: &[u8]) -> Option<Verb>
-    ensures { Reads AnyVerb keyword word.now result }
-{
-    if same(word, b"field") {
-        return Some(Verb::Field);
+// A line that begins with another word has none of the ten forms.
+impl FromStr for Verb {
+    type Err = LineFault;
+
+    ghost from_str_gives = { λ word r. Reads AnyVerb keyword word (result_ok r) };
+
+    fn from_str(word: &str) -> Result<Verb, LineFault> {
+        match word {
+            "field" => Ok(Verb::Field),
+            "escape" => Ok(Verb::Escape),
+            "pad" => Ok(Verb::Pad),
+            "land" => Ok(Verb::Land),
+            "keep" => Ok(Verb::Keep),
+            "place" => Ok(Verb::Place),
+            "lift" => Ok(Verb::Lift),
+            "bar" => Ok(Verb::Bar),
+            "clear" => Ok(Verb::Clear),
+            "show" => Ok(Verb::Show),
+            _ => Err(LineFault::NoForm),
+        }
     }
-    if same(word, b"escape") {
-        return Some(Verb::Escape);
-    }
-    if same(word, b"pad") {
-        return Some(Verb::Pad);
-    }
-    if same(word, b"land") {
-        return Some(Verb::Land);
-    }
-    if same(word, b"keep") {
-        return Some(Verb::Keep);
-    }
-    if same(word, b"place") {
-        return Some(Verb::Place);
-    }
-    if same(word, b"lift") {
-        return Some(Verb::Lift);
-    }
-    if same(word, b"bar") {
-        return Some(Verb::Bar);
-    }
-    if same(word, b"clear") {
-        return Some(Verb::Clear);
-    }
-    if same(word, b"show") {
-        return Some(Verb::Show);
-    }
-    None
 }

@@ -1,20 +1,13 @@
 // Words: cutting a text at a byte, comparing words, numbers and names.
-ghost use Rattle.std.specs.Prelude.{◌≡◌, ◌≤◌, length, decimal, Decides, MatchOption};
-ghost use Rattle.std.specs.Str.Parse.{AllDigits, digits_value};
-ghost use Rattle.job_lines.specs.Words.{Cut, Name, NameByte, Number, Reads};
+ghost use Rattle.std.specs.Prelude.{◌≡◌, decimal, Decides};
+ghost use Rattle.job_lines.specs.Words.{Cut, Name, NameByte, Number, Reads, StartsNumber};
 
 // The part of a text before the first `byte`, and the part after it; none if the byte stands nowhere.
 pub fn cut<'a>(text: &'a [u8], byte: u8) -> Option<(&'a [u8], &'a [u8])>
     ensures { Cut byte text.now result }
 {
-    for (i, b) in text.iter().enumerate() {
-        if *b == byte {
-            let (front, _) = text.split_at(i);
-            let (_, rest) = text.split_at(i + 1);
-            return Some((front, rest));
-        }
-    }
-    None
+    let at = text.iter().position(|b| *b == byte)?;
+    Some((&text[..at], &text[at + 1..]))
 }
 
 // Whether two words are the same.
@@ -28,48 +21,26 @@ pub fn same(a: &[u8], b: &[u8]) -> bool
 pub fn is_name(word: &[u8]) -> bool
     ensures { Decides result (Name word.now) }
 {
-    if word.len() == 0 || word.len() > 8 {
-        return false;
-    }
-    for b in word {
-        if !is_name_byte(*b) {
-            return false;
-        }
-    }
-    true
-}
-
-// Whether a byte is a capital letter or a digit.
-fn is_name_byte(byte: u8) -> bool
-    ensures { Decides result (NameByte byte) }
-{
-    byte >= b'0' && byte <= b'9' || byte >= b'A' && byte <= b'Z'
+    (1..=8).contains(&word.len())
+        && word
+            .iter()
+            .all(|b| b.is_ascii_uppercase() || b.is_ascii_digit())
 }
 
 // The number that a word writes: one to four digits with no leading zero except 0 itself.
 pub fn read_number(word: &[u8]) -> Option<u16>
     ensures { Reads Number decimal word.now result }
 {
-    if word.len() == 0 || word.len() > 4 {
+    // Without these tests `parse` would take a sign, zeros in front and longer numbers too.
+    if word.len() > 4 || !starts_number(word) {
         return None;
     }
-    if word.len() > 1 && word[0] == b'0' {
-        return None;
-    }
-    digits_value(word)
+    str::from_utf8(word).ok()?.parse().ok()
 }
 
-// The value of at most four digits; none if some byte is no digit.
-fn digits_value(word: &[u8]) -> Option<u16>
-    requires { length word.now ≤ 4 }
-    ensures { MatchOption result (AllDigits 10 word.now → ⊥) (λ n. AllDigits 10 word.now × (n ≡ digits_value 10 word.now)) }
+// Whether a word begins with a digit, and with 0 only if it is 0.
+fn starts_number(word: &[u8]) -> bool
+    ensures { Decides result (StartsNumber word.now) }
 {
-    let mut sum = 0;
-    for b in word {
-        if *b < b'0' || *b > b'9' {
-            return None;
-        }
-        sum = sum * 10 + (*b - b'0') as u16;
-    }
-    Some(sum)
+    matches!(word, [b'0'] | [b'1'..=b'9', ..])
 }

@@ -1,39 +1,20 @@
-use Rattle.std.proofs.Common.{◌+◌, [], ◌∷◌, ◌++◌, vec_items, sym, ap, ◌∙◌, subst, arith}
-use Rattle.job_answers.proofs.Steps.{Passed, none_passed, more_passed, stops, all_passed, no_course}
+use Rattle.std.proofs.Common.{rules}
+use Rattle.std.proofs.lemmas.Slice.Zip.{Zip-more, either_empty_from_Zip}
+use Rattle.job_answers.proofs.Steps.{none_passed, more_passed, stops, all_passed}
 use Rattle.job_answers.proofs.courses.course.Goals as goal
 
-pub returns-then-cells-eq0 : goal.returns-then-cells-eq0
-returns-then-cells-eq0 g c = no_course (g.B.PlacedBoard.places c.args.board.now) c.args.cells.now c.if-cells-eq0.true
+pub loop-from-init : goal.loop-from-init
+loop-from-init g c = none_passed _ _ _ _ _ c.in-Some.field-0-0.now (search rules) (search rules) (search rules)
 
-pub loop-i-init : goal.loop-i-init
-loop-i-init g c =
-    subst
-    (λ letters. Passed (g.B.PlacedBoard.places c.args.board.now) c.args.cells.now 0 letters)
-    (sym c.new-letters.ensures.items)
-    (none_passed (g.B.PlacedBoard.places c.args.board.now) c.args.cells.now)
+pub returns-in_default-step_from : goal.returns-in_default-step_from
+returns-in_default-step_from g c =
+    let turn = Zip-more c.loop-from.from-iterator c.next.new.self _ (c.in-Some-2.from, c.in-Some-2.to) c.in-Some-2.is c.next.ensures.steps in
+    stops _ _ _ _ _ _ _ _ _ turn.0 turn.1 c.in_default-step_from.ensures c.loop-from.invariant
 
-pub returns-in-None : goal.returns-in-None
-returns-in-None g c =
-    stops
-    (g.B.PlacedBoard.places c.args.board.now) c.args.cells.now c.loop-i.i (vec_items c.loop-i.letters)
-    (omega arith)
-    c.in-None.ensures
-    c.loop-i.invariant
-
-pub loop-i-preserved : goal.loop-i-preserved
-loop-i-preserved g c =
-    subst
-    (λ letters. Passed (g.B.PlacedBoard.places c.args.board.now) c.args.cells.now (c.loop-i.i + 1) letters)
-    (sym (c.in_ok-push-in-Some.ensures.items ∙ ap (λ x. vec_items c.loop-i.letters ++ x ∷ []) c.letter_of.ensures))
-    (more_passed
-    (g.B.PlacedBoard.places c.args.board.now) c.args.cells.now c.loop-i.i (vec_items c.loop-i.letters) c.in-Some.step
-    (omega arith)
-    c.in-Some.ensures
-    c.loop-i.invariant)
+pub loop-from-preserved : goal.loop-from-preserved
+loop-from-preserved g c =
+    let turn = Zip-more c.loop-from.from-iterator c.next.new.self _ (c.in-Some-2.from, c.in-Some-2.to) c.in-Some-2.is c.next.ensures.steps in
+    more_passed _ _ _ _ _ _ _ _ _ _ _ turn.0 turn.1 (search rules) c.in-Some-step_from.ensures c.loop-from.invariant
 
 pub returns : goal.returns
-returns g c =
-    all_passed
-    (g.B.PlacedBoard.places c.args.board.now) c.args.cells.now c.loop-i.i (vec_items c.loop-i.letters)
-    (omega arith) (omega arith) (omega arith)
-    c.loop-i.invariant
+returns g c = all_passed _ _ _ _ _ (either_empty_from_Zip c.loop-from.from-iterator c.next.new.self _ c.in-None.is c.next.ensures.steps) c.loop-from.invariant
