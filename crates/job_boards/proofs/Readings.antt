@@ -1,8 +1,10 @@
 -- Reading the lines about the board, one after another.
-use Rattle.std.proofs.Common.{ℕ, suc, ◌+◌, ◌≤◌, List, length, Ok, sym, subst, add-one, arith}
+use Rattle.std.proofs.Common.{◌≡◌, ℕ, suc, ◌+◌, ◌≤◌, List, [], length, Some, None, Ok, Err, Option, sym, subst, add-one, arith}
+use Rattle.job_lines.specs.declared.faults.LineFault.{LineFault}
 use Rattle.job_lines.specs.Lines.{lines_of, FirstLine}
 use Rattle.job_boards.specs.Plans.{Plan, Sound}
-use Rattle.job_boards.specs.Reading.{LineEntered, Reaches, here, more}
+use Rattle.job_boards.specs.Reading.{LineEntered, Reaches, here, more, Over, Stops}
+use Rattle.job_boards.specs.declared.entering.Stop.TheVariants.{Fault, Call}
 use Rattle.job_boards.proofs.Sounding.{sound_entered}
 
 -- k lines of the text are read, the plan is p then, and the rest is to come
@@ -22,3 +24,21 @@ module _ (start : Plan) (text : List ℕ) where
       let reaches = subst Q (sym (add-one k)) (subst R (sym e.3) (more (subst P first.first h.0) e.1 e.2)) in
       let shorter = first.shorter in
       (reaches, subst Sound (sym e.3) (sound_entered p e.0 e.1.right e.2 h.1), omega (arith, h.2))
+
+-- how the reading ends, with the plan p and so much to come
+module _ (start : Plan) (text : List ℕ) (k : ℕ) (p : Plan) (rest : List ℕ) (so_far : ReadTo start text k p rest) where
+  abbrev pub Ended : Plan → Option LineFault → Type 0
+  Ended q o = ReadTo start text k q rest × Stops q (lines_of rest) o
+
+  pub no_line : rest ≡ [] → Ended p None
+  no_line e = let P : List ℕ → Type 0 = λ xs. Over (lines_of xs) in (so_far, subst P (sym e) tt)
+
+  module _ (q : Plan) (line left : List ℕ) (first : FirstLine rest line left) where
+    pub at_call : LineEntered p q line (Err Call) → Ended q None
+    at_call e = let P : Plan → Type 0 = λ x. Ended x None in subst P (sym e.3) (so_far, subst Over (sym first.first) (e.0, e.1, e.2))
+
+    pub at_fault : (f : LineFault) → LineEntered p q line (Err (Fault f)) → Ended q (Some f)
+    at_fault f e =
+        let P : Plan → Type 0 = λ x. Ended x (Some f) in
+        let Q : List (List ℕ) → Type 0 = λ lines. Stops p lines (Some f) in
+        subst P (sym e.1) (so_far, subst Q (sym first.first) e.0)

@@ -1,5 +1,5 @@
 -- What is not false of sides and places is true.
-use Rattle.std.proofs.Common.{◌≡◌, ℕ, ◌*◌, ◌<◌, ◌≤◌, List, refl, ap, inl, ⊎_elim, arith, lit<}
+use Rattle.std.proofs.Common.{◌≡◌, ℕ, ◌*◌, ◌<◌, ◌≤◌, List, Ok, Err, Result, refl, inl, ⊎_elim, arith, lit<}
 use Rattle.std.proofs.lemmas.Bool.{cases_lt}
 use Rattle.boards.specs.declared.maps.MapKind.{MapKind}
 use Rattle.boards.specs.declared.place.Place.{Place}
@@ -7,7 +7,7 @@ use Rattle.boards.specs.declared.refusal.BoardRefusal.{BoardRefusal}
 use Rattle.boards.specs.declared.refusal.BoardRefusal.TheVariants.{Sides, Length, Byte, OffBoard}
 use Rattle.boards.specs.Maps.{SidesAllowed, MapFault}
 use Rattle.boards.specs.Numbers.{number_of}
-use Rattle.boards.specs.Refusals.{First, NoneHolds}
+use Rattle.boards.specs.Refusals.{Answer, First}
 use Rattle.boards.specs.Grids.{OnGrid}
 
 stable_le : (a b : ℕ) → ((a ≤ b → ⊥) → ⊥) → a ≤ b
@@ -35,19 +35,13 @@ on_grid_stable L R C p f = record {
 
 -- the map check finds sides that are not allowed first
 module _ (kind : MapKind) (R C : ℕ) (bytes : List ℕ) where
-  pub allowed_if_none : NoneHolds (MapFault kind R C bytes) → SidesAllowed R C
-  allowed_if_none good = sides_stable R C (λ n. good 13 (inl (refl, n)))
-
   allowed_if_later : (k : ℕ) → 13 < k → First (MapFault kind R C bytes) k → SidesAllowed R C
   allowed_if_later k h a = sides_stable R C (λ n. a.1 13 h (inl (refl, n)))
 
-  pub allowed_if_other : (e : BoardRefusal) → (e ≡ Sides → ⊥) → First (MapFault kind R C bytes) (number_of e) → SidesAllowed R C
-  allowed_if_other Sides n a = absurd (n refl)
-  allowed_if_other Length n a = allowed_if_later 14 (lit< tt) a
-  allowed_if_other Byte n a = allowed_if_later 15 (lit< tt) a
-  allowed_if_other OffBoard n a = allowed_if_later 16 (lit< tt) a
-
-  pub refused_sides : (e : BoardRefusal) → e ≡ Sides → First (MapFault kind R C bytes) (number_of e) → SidesAllowed R C → ⊥
-  refused_sides e is a s =
-      let n : number_of e ≡ 13 = ap number_of is in
-      ⊎_elim (λ x. x.1 s) (λ g. ⊎_elim (λ x. omega (arith, x.0)) (λ x. omega (arith, x.0)) g) a.0
+  pub allowed_else : (r : Result (Unit {0}) BoardRefusal) → Answer number_of (MapFault kind R C bytes) (λ _. Unit {0}) r →
+      (r ≡ Err Sides → ⊥) → SidesAllowed R C
+  allowed_else (Ok x) a n = sides_stable R C (λ f. a.0 13 (inl (refl, f)))
+  allowed_else (Err Sides) a n = absurd (n refl)
+  allowed_else (Err Length) a n = allowed_if_later 14 (lit< tt) a
+  allowed_else (Err Byte) a n = allowed_if_later 15 (lit< tt) a
+  allowed_else (Err OffBoard) a n = allowed_if_later 16 (lit< tt) a

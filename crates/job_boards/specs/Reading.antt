@@ -3,7 +3,6 @@ use Rattle.std.specs.Prelude.{◌≡◌, ℕ, suc, ◌+◌, ◌≤◌, ◌⊎◌
 use Rattle.boards.specs.declared.maps.MapKind.{MapKind}
 use Rattle.boards.specs.declared.maps.MapKind.TheVariants.{FieldMap, EscapeMap}
 use Rattle.boards.specs.Maps.{SidesAllowed}
-use Rattle.linkages.specs.Lists.{Mem}
 use Rattle.job_lines.specs.declared.faults.LineFault.{LineFault}
 use Rattle.job_lines.specs.declared.faults.LineFault.TheVariants.{Sides}
 use Rattle.job_lines.specs.Lines.{lines_of}
@@ -22,9 +21,9 @@ named q = record { name = q.name.now; row = q.row; column = q.column }
 
 abbrev pub plan_of : code.Plan.Plan → Plan
 plan_of p = record {
-  kind = p.kind;
-  rows = p.rows;
-  columns = p.columns;
+  kind = p.header.kind;
+  rows = p.header.rows;
+  columns = p.header.columns;
   map = vec_items p.map;
   pads = map named (vec_items p.pads);
   kept = vec_items p.kept;
@@ -44,12 +43,9 @@ abbrev pub Headed : List ℕ → Result Header LineFault → Type 0
 Headed bytes (Ok h) = Good first_line bytes (header_form h.kind h.rows h.columns)
 Headed bytes (Err k) = Faulty first_line bytes k
 
--- a pad has the name or is at the point; some pad does
+-- a pad has the name or is at the point
 abbrev pub Takes : Named → (name : List ℕ) (r c : ℕ) → Type 0
 Takes q n r c = (q.name ≡ n) ⊎ ((q.row ≡ r) × (q.column ≡ c))
-
-abbrev pub Taken : List Named → (name : List ℕ) (r c : ℕ) → Type 0
-Taken pads n r c = (q : Named) × Mem q pads × Takes q n r c
 
 -- a line about the board, and a line that is a call
 abbrev pub BoardForm : Form → Type 0

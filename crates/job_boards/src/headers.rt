@@ -1,6 +1,4 @@
 // Reading the first line of a job.
-ghost use Rattle.std.specs.Prelude.{Decides};
-ghost use Rattle.boards.specs.Maps.{SidesAllowed};
 ghost use Rattle.job_boards.specs.Reading.{Headed, Sided};
 
 use crate::header::Header;
@@ -14,21 +12,19 @@ use job_lines::read::read_line;
 pub fn read_header(bytes: &[u8]) -> Result<Header, LineFault>
     ensures { Headed bytes.now result }
 {
-    let Some(line) = read_line(bytes) else {
-        return Err(LineFault::NoForm);
-    };
-    match line {
+    match read_line(bytes).ok_or(LineFault::NoForm)? {
         Line::Field { rows, columns } => sided(MapKind::FieldMap, rows, columns),
         Line::Escape { rows, columns } => sided(MapKind::EscapeMap, rows, columns),
         _ => Err(LineFault::OutOfPlace),
     }
 }
 
-// The header of these sides, if they are allowed.
+// The header of these sides, if they are allowed. The map check looks at them first, so where it finds something else they are,
+// whatever the map.
 fn sided(kind: MapKind, rows: u16, columns: u16) -> Result<Header, LineFault>
     ensures { Sided kind rows columns result }
 {
-    if !are_allowed(rows, columns) {
+    if check_map(kind, rows, columns, b"") == Err(BoardRefusal::Sides) {
         return Err(LineFault::Sides);
     }
     Ok(Header {
@@ -36,17 +32,4 @@ fn sided(kind: MapKind, rows: u16, columns: u16) -> Result<Header, LineFault>
         rows,
         columns,
     })
-}
-
-// Whether the sides are allowed. The map check looks at them first, so where it finds something else they are, whatever the map.
-fn are_allowed(rows: u16, columns: u16) -> bool
-    ensures { Decides result (SidesAllowed rows columns) }
-{
-    match check_map(MapKind::FieldMap, rows, columns, b"") {
-        Ok(()) => true,
-        Err(refusal) => match refusal {
-            BoardRefusal::Sides => false,
-            _ => true,
-        },
-    }
 }

@@ -1,21 +1,46 @@
 // What the lines about the board say.
-use boards::maps::MapKind;
+ghost use Rattle.std.specs.Prelude.{◌≡◌, ◌*◌, ◌↔◌, vec_len, IsTrue};
+
+use crate::header::Header;
+use boards::place::Place;
 
 // A pad, by its name and its point.
-#[derive(Clone, Copy)]
+#[derive(Clone, Copy, PartialEq, Eq, Debug)]
 pub struct Pad<'a> {
     pub name: &'a [u8],
     pub row: u16,
     pub column: u16,
 }
 
+impl Pad<'_> {
+    ghost use Rattle.job_boards.specs.Plans.{at_place};
+    ghost use Rattle.job_boards.specs.Reading.{named, Takes};
+
+    // Where the pad lies: on the top layer, above its point.
+    pub fn place(self) -> Place
+        ensures { result ≡ at_place 1 self.entry.row self.entry.column }
+    {
+        Place {
+            layer: 1,
+            row: self.row,
+            column: self.column,
+        }
+    }
+
+    // Whether the two have one name, or lie at one point.
+    pub(crate) fn takes(self, other: Pad) -> bool
+        ensures { IsTrue result ↔ Takes (named self.entry) other.entry.name.now other.entry.row other.entry.column }
+    {
+        self.name == other.name || self.row == other.row && self.column == other.column
+    }
+}
+
 // The kind of board and its sides, the map so far, the pads in the order of their lines, and the cells kept out.
 #[derive(Drop)]
 pub struct Plan<'a> {
-    pub kind: MapKind,
-    pub rows: u16,
-    pub columns: u16,
+    pub header: Header,
     pub map: Vec<u8>,
     pub pads: Vec<Pad<'a>>,
     pub kept: Vec<u16>,
+    ghost full: { vec_len map ≡ header.rows * header.columns },
 }

@@ -31,37 +31,24 @@ pub fn read_board<'a>(
     let mut plan = bare_plan(heap, header)?;
     let mut lines = 0;
     let mut rest = text;
-    while let Some((bytes, more)) = next_line(rest) {
+    let fault = loop {
+        let Some((bytes, more)) = next_line(rest) else {
+            break None;
+        };
         match enter_line(&mut plan, bytes) {
             Ok(()) => {}
-            Err(stop) => match stop {
-                Stop::Call => {
-                    return Ok(Reading {
-                        plan,
-                        lines,
-                        rest,
-                        fault: None,
-                    });
-                }
-                Stop::Fault(fault) => {
-                    return Ok(Reading {
-                        plan,
-                        lines,
-                        rest,
-                        fault: Some(fault),
-                    });
-                }
-                Stop::Memory => return Err(AllocError),
-            },
+            Err(Stop::Call) => break None,
+            Err(Stop::Fault(fault)) => break Some(fault),
+            Err(Stop::Memory) => return Err(AllocError),
         }
         lines += 1;
         rest = more;
-    }
+    };
     Ok(Reading {
         plan,
         lines,
         rest,
-        fault: None,
+        fault,
     })
 }
 
@@ -71,10 +58,8 @@ fn bare_plan<'a>(heap: Global, header: Header) -> Result<Plan<'a>, AllocError>
 {
     let points = header.rows as usize * header.columns as usize;
     Ok(Plan {
-        kind: header.kind,
-        rows: header.rows,
-        columns: header.columns,
-        map: vec![in heap; 0u8; points]?,
+        header,
+        map: vec![in heap; 0; points]?,
         pads: Vec::new(heap),
         kept: Vec::new(heap),
     })

@@ -32,21 +32,11 @@ fn try_job(rt: &HostRuntime, name: &str, room: usize) -> anyhow::Result<()> {
     let bytes = end.bytes;
     let fault = end.number();
     let (said, rest) = output.as_slice().split_at(bytes);
-    let verdict = if said == expected.as_slice() && is_untouched(rest) {
+    let verdict = if said == expected.as_slice() && rest.iter().all(|byte| *byte == UNTOUCHED) {
         "as it should be"
     } else {
         "WRONG"
     };
     println!(rt; "{name} {room}: {bytes} bytes, fault {fault}, {verdict}")?;
     Ok(())
-}
-
-// Whether memory is as it was.
-fn is_untouched(memory: &[u8]) -> bool {
-    for byte in memory {
-        if *byte != UNTOUCHED {
-            return false;
-        }
-    }
-    true
 }

@@ -1,13 +1,25 @@
 -- The pads of a job: those of the code, and the same as plain data.
-use Rattle.std.proofs.Common.{◌≡◌, ℕ, suc, ◌<◌, List, [], ◌∷◌, map, length, get_or, sym, ap, ◌∙◌, arith}
-use Rattle.linkages.specs.Lists.{Mem, here, there}
+use Rattle.std.proofs.Common.{◌≡◌, ℕ, ◌<◌, List, map, length, Some, None, MatchOption, Option, sym, refl, ap, ◌∙◌, arith}
+use Rattle.std.specs.List.{AllWithin, HoldsAt}
+use Rattle.std.specs.Borrow.{Bor}
+use Rattle.linkages.specs.Lists.{Mem}
 use Rattle.job_boards.specs.declared.plan.Pad.{Pad}
 use Rattle.job_boards.specs.Plans.{Named}
 use Rattle.job_boards.specs.Reading.{named}
+use Rattle.job_boards.proofs.Pads.{named_there, named_from}
+use Rattle.jobs.specs.Calls.{top_of}
 
--- if no pad has the name by its place in the list, none has it
-pub nobody : (n : List ℕ) (pads : List Pad) → ((k : ℕ) → k < length pads → (d : Pad) → (get_or pads k d).name.now ≡ n → ⊥) →
-    (q : Named) → Mem q (map named pads) → q.name ≡ n → ⊥
-nobody n [] h q m e = elim m [ ]
-nobody n (x ∷ xs) h q (here i) e = h 0 (omega arith) x (sym (ap (λ (p : Named). p.name) i) ∙ e)
-nobody n (x ∷ xs) h q (there m) e = nobody n xs (λ k l d. h (suc k) (omega arith) d) q m e
+-- what a search by the name gives: the first pad that has it, or none has
+module _ (n : List ℕ) (pads : List Pad) (r : Option (Bor Pad)) where
+  abbrev pub Found : Type 0
+  Found = MatchOption r (AllWithin (λ x. x.name.now ≡ n → ⊥) pads 0 (length pads))
+      (λ x. (x.now.name.now ≡ n) × (i : ℕ) × (i < length pads) × HoldsAt (λ y. y ≡ x.now) pads i × AllWithin (λ y. y.name.now ≡ n → ⊥) pads 0 i)
+
+  pub somebody : (x : Bor Pad) → Found → r ≡ Some x → (q : Named) × Mem q (map named pads) × (q.name ≡ n) × (top_of (named x.now) ≡ top_of q)
+  somebody x f e = let h = rw e at f in (named x.now, named_there pads h.1 x.now h.2 (h.3 x.now), h.0, refl)
+
+  pub nobody : Found → r ≡ None → (q : Named) → Mem q (map named pads) → q.name ≡ n → ⊥
+  nobody f e q m i =
+      let none = rw e at f in
+      let h = named_from pads q m in
+      none h.0 h.1 (omega arith) h.2 (ap (λ (x : Pad). x.name.now) h.3 ∙ sym (ap (λ (x : Named). x.name) h.4) ∙ i)

@@ -1,5 +1,6 @@
 -- What the functions that make the calls of a job answer.
-use Rattle.std.specs.Prelude.{◌≡◌, ℕ, ◌+◌, ◌*◌, ◌<◌, ◌≤◌, ◌⊎◌, List, ◌++◌, map, length, Some, None, Ok, Err, vec_items, Option, Result, ◌≢◌}
+use Rattle.std.specs.Prelude.{◌≡◌, ℕ, ◌+◌, ◌*◌, ◌<◌, ◌≤◌, ◌⊎◌, List, map, length, Some, Ok, Err, vec_items, Result, ◌≢◌}
+use Rattle.std.specs.Global.{Vec}
 use Rattle.boards.specs.declared.place.Place as boards
 use Rattle.boards.specs.Meaning.{Meaning}
 use Rattle.boards.specs.Places.{place_at}
@@ -14,11 +15,13 @@ use Rattle.job_lines.specs.declared.faults.LineFault.{LineFault}
 use Rattle.job_lines.specs.declared.faults.LineFault.TheVariants.{Names, Full}
 use Rattle.job_lines.specs.Grammar.{Form}
 use Rattle.job_boards.specs.declared.plan.Pad.{Pad}
-use Rattle.job_boards.specs.Plans.{Named, Plan, board_meaning, board_places}
+use Rattle.job_boards.specs.Plans.{Named, Plan, Sound, base, board_meaning, board_places}
 use Rattle.job_boards.specs.Faults.{call_lines, Wrong, FirstIn, NoneIn, checks, Faulty}
 use Rattle.job_boards.specs.Reading.{named}
 use Rattle.job_answers.specs.Texts.{show_line}
 use Rattle.job_answers.specs.Courses.{Course}
+use Rattle.jobs.specs.declared.calls.Stop.{Stop}
+use Rattle.jobs.specs.declared.calls.Stop.TheVariants.{Fault, Memory}
 use Rattle.jobs.specs.declared.desk.Desk.{Desk}
 use Rattle.jobs.specs.declared.orders as code
 use Rattle.jobs.specs.declared.orders.Wish.TheVariants as wish
@@ -28,6 +31,14 @@ use Rattle.jobs.specs.Calls.{Wish, call, course_of, top_of, Asks, Made, LineAnsw
 pub record Site (p : Plan) (m : Meaning) (ps : List boards.Place) (pads : List Pad) : Type 0 where
   pub means : m ≡ board_meaning p
   pub lies : ps ≡ board_places p
+  pub names : map named pads ≡ p.pads
+
+-- the board of the map and what is kept out of it and the pads are those of the plan
+pub record Describes (p : Plan) (m : Meaning) (ps : List boards.Place) (kept : List ℕ) (pads : List Pad) : Type 0 where
+  pub sound : Sound p
+  pub means : m ≡ base p.kind p.rows p.columns p.map
+  pub lies : ps ≡ board_places p
+  pub closed : kept ≡ p.kept
   pub names : map named pads ≡ p.pads
 
 -- the place of the pad with a name
@@ -62,10 +73,10 @@ Called m ps d e kind q r =
 abbrev pub SaysCourse : List boards.Place → (name cells said : List ℕ) → Type 0
 SaysCourse ps name cells said = (letters : List ℕ) × Course ps cells letters × (said ≡ show_line name letters)
 
--- what comes of one line: its answer is added to what was said, or it has a fault
-abbrev pub LineDone : Plan → (d e : List Record) → (room : ℕ) (bytes said said' : List ℕ) → Option LineFault → Type 0
-LineDone p d e room bytes said said' None =
-    (answer : List ℕ) × LineAnswered p d bytes e answer × (length said + length answer + 24 ≤ room) × (said' ≡ said ++ answer)
-LineDone p d e room bytes said said' (Some x) =
-    (said' ≡ said) × ((Faulty (call_lines p) bytes x × (e ≡ d))
-    ⊎ ((x ≡ Full) × ((answer : List ℕ) × LineAnswered p d bytes e answer × (room < length said + length answer + 24))))
+-- what comes of one line, where so many bytes were said before: it is answered, or it has a fault; want of memory says nothing
+abbrev pub LineDone : Plan → (d e : List Record) → (room used : ℕ) (bytes : List ℕ) → Result (Vec ℕ) Stop → Type 0
+LineDone p d e room used bytes (Ok v) = LineAnswered p d bytes e (vec_items v) × (used + length (vec_items v) + 24 ≤ room)
+LineDone p d e room used bytes (Err (Fault x)) =
+    (Faulty (call_lines p) bytes x × (e ≡ d))
+    ⊎ ((x ≡ Full) × ((answer : List ℕ) × LineAnswered p d bytes e answer × (room < used + length answer + 24)))
+LineDone p d e room used bytes (Err Memory) = Unit {0}

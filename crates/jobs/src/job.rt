@@ -1,7 +1,7 @@
 // Running a job on output memory.
 ghost use Rattle.std.specs.Prelude.{◌≡◌, ◌≤◌, length};
 ghost use Rattle.drawings.specs.Changes.{written};
-ghost use Rattle.jobs.specs.Jobs.{job_fault_number, end_number, line_fault, JobRun};
+ghost use Rattle.jobs.specs.Jobs.{job_fault_number, end_number, JobRun};
 
 use crate::perform::perform;
 use job_lines::faults::LineFault;
@@ -13,7 +13,7 @@ pub const JOB_MAX: usize = 32768;
 pub const OUTPUT_MIN: usize = 24;
 
 // Why a job ended early.
-#[derive(Clone, Copy)]
+#[derive(Clone, Copy, PartialEq, Eq, Debug)]
 pub enum JobFault {
     // A line is faulty.
     Line(LineFault),
@@ -36,8 +36,8 @@ impl JobFault {
     }
 }
 
-// How a job ended: the bytes written, and its fault.
-#[derive(Clone, Copy)]
+// How a job ended: the bytes written, and its fault. The output is the caller's memory, so what was written is told by its length.
+#[derive(Clone, Copy, PartialEq, Eq, Debug)]
 pub struct JobEnd {
     pub bytes: usize,
     pub fault: Option<JobFault>,
@@ -48,10 +48,7 @@ impl JobEnd {
     pub fn number(self) -> u8
         ensures { result ≡ end_number self.fault }
     {
-        match self.fault {
-            Some(fault) => fault.number(),
-            None => 0,
-        }
+        self.fault.map_or(0, |fault| fault.number())
     }
 }
 
@@ -66,28 +63,16 @@ pub fn run_job(heap: Global, job: &[u8], output: &mut [u8]) -> JobEnd
             fault: Some(JobFault::Sizes),
         };
     }
-    match perform(heap, job, output.len()) {
-        Ok(transcript) => {
-            write_front(output, transcript.said.as_slice());
-            JobEnd {
-                bytes: transcript.said.len(),
-                fault: line_fault(transcript.fault),
-            }
-        }
-        Err(_) => JobEnd {
+    let Ok(transcript) = perform(heap, job, output.len()) else {
+        return JobEnd {
             bytes: 0,
             fault: Some(JobFault::Memory),
-        },
-    }
-}
-
-// The fault of a line, as one of the job.
-fn line_fault(fault: Option<LineFault>) -> Option<JobFault>
-    ensures { result ≡ line_fault fault }
-{
-    match fault {
-        Some(fault) => Some(JobFault::Line(fault)),
-        None => None,
+        };
+    };
+    write_front(output, transcript.said.as_slice());
+    JobEnd {
+        bytes: transcript.said.len(),
+        fault: transcript.fault.map(JobFault::Line),
     }
 }
 
@@ -96,5 +81,5 @@ fn write_front(output: &mut [u8], bytes: &[u8])
     requires { length bytes.now ≤ length output.old }
     ensures { output.new ≡ written bytes.now output.old }
 {
-    output[0..bytes.len()].copy_from_slice(bytes);
+    output[..bytes.len()].copy_from_slice(bytes);
 }

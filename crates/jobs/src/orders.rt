@@ -9,18 +9,17 @@ use boards::place::Place;
 use job_boards::plan::Pad;
 use job_lines::faults::LineFault;
 use job_lines::line::Line;
-use job_lines::words::same;
 use runs::calls::Kind;
 
 // A call that changes the drawing, or the course of the pad with a name.
-#[derive(Clone, Copy)]
+#[derive(Clone, Copy, PartialEq, Eq, Debug)]
 pub(crate) enum Wish<'a> {
     Call(Kind),
     Course(&'a [u8]),
 }
 
 // What is asked for, and at which place.
-#[derive(Clone, Copy)]
+#[derive(Clone, Copy, PartialEq, Eq, Debug)]
 pub(crate) struct Order<'a> {
     pub(crate) wish: Wish<'a>,
     pub(crate) place: Place,
@@ -30,52 +29,39 @@ pub(crate) struct Order<'a> {
 pub(crate) fn order_of<'a>(pads: &[Pad], line: Line<'a>) -> Result<Order<'a>, LineFault>
     ensures { (p : Plan) → map named pads.now ≡ p.pads → Ordered p (form_of line.entry) result }
 {
-    match line {
-        Line::Place(name) => {
-            let place = find_pad(pads, name)?;
-            Ok(Order {
-                wish: Wish::Call(Kind::Place),
-                place,
-            })
-        }
-        Line::Lift(name) => {
-            let place = find_pad(pads, name)?;
-            Ok(Order {
-                wish: Wish::Call(Kind::Lift),
-                place,
-            })
-        }
-        Line::Show(name) => {
-            let place = find_pad(pads, name)?;
-            Ok(Order {
-                wish: Wish::Course(name),
-                place,
-            })
-        }
-        Line::Bar { layer, row, column } => Ok(Order {
+    let order = match line {
+        Line::Place(name) => Order {
+            wish: Wish::Call(Kind::Place),
+            place: find_pad(pads, name)?,
+        },
+        Line::Lift(name) => Order {
+            wish: Wish::Call(Kind::Lift),
+            place: find_pad(pads, name)?,
+        },
+        Line::Show(name) => Order {
+            wish: Wish::Course(name),
+            place: find_pad(pads, name)?,
+        },
+        Line::Bar { layer, row, column } => Order {
             wish: Wish::Call(Kind::Bar),
             place: Place { layer, row, column },
-        }),
-        Line::Clear { layer, row, column } => Ok(Order {
+        },
+        Line::Clear { layer, row, column } => Order {
             wish: Wish::Call(Kind::Clear),
             place: Place { layer, row, column },
-        }),
-        _ => Err(LineFault::OutOfPlace),
-    }
+        },
+        _ => return Err(LineFault::OutOfPlace),
+    };
+    Ok(order)
 }
 
 // The place of the pad with a name.
 fn find_pad(pads: &[Pad], name: &[u8]) -> Result<Place, LineFault>
     ensures { FindsPad (map named pads.now) name.now result }
 {
-    for pad in pads {
-        if same(pad.name, name) {
-            return Ok(Place {
-                layer: 1,
-                row: pad.row,
-                column: pad.column,
-            });
-        }
-    }
-    Err(LineFault::Names)
+    let pad = pads
+        .iter()
+        .find(|pad| pad.name == name)
+        .ok_or(LineFault::Names)?;
+    Ok(pad.place())
 }

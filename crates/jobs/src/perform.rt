@@ -7,9 +7,9 @@ ghost use Rattle.job_boards.specs.Reading.{plan_of, header_form};
 ghost use Rattle.job_answers.specs.Texts.{fault_line};
 ghost use Rattle.jobs.specs.Calls.{Ends};
 ghost use Rattle.jobs.specs.Jobs.{Job};
-ghost use Rattle.jobs.specs.Steps.{Site};
+ghost use Rattle.jobs.specs.Steps.{Describes};
 
-use crate::calls::make_calls;
+use crate::calls::Setting;
 use crate::desk::Desk;
 use boards::board::Board;
 use boards::escape::Escape;
@@ -100,45 +100,52 @@ fn perform_plan(
     ensures { IfOk result (λ t. Ends (plan_of plan.entry) room before (lines_of text.now) t.drawing.items t.said.items t.fault) }
 {
     let Plan {
-        kind,
-        rows,
-        columns,
+        header,
         map,
         pads,
         kept,
     } = plan;
-    match kind {
+    let Header { rows, columns, .. } = header;
+    match header.kind {
         MapKind::FieldMap => {
-            let board = keep_out(Field::new(rows, columns, map), kept.as_slice());
-            perform_calls(heap, &board, pads.as_slice(), text, before, room)
+            let board = Field::new(rows, columns, map);
+            perform_calls(heap, board, &kept, &pads, text, before, room)
         }
         MapKind::EscapeMap => {
-            let board = keep_out(Escape::new(rows, columns, map), kept.as_slice());
-            perform_calls(heap, &board, pads.as_slice(), text, before, room)
+            let board = Escape::new(rows, columns, map);
+            perform_calls(heap, board, &kept, &pads, text, before, room)
         }
     }
 }
 
-// The calls on a board, from a fresh drawing on.
-fn perform_calls<B: PlacedBoard>(
+// The calls on the board of a map with cells kept out, from a fresh drawing on.
+fn perform_calls<B: PlacedBoard + Drop>(
     heap: Global,
-    board: &B,
+    base: B,
+    kept: &[u16],
     pads: &[Pad],
     text: &[u8],
     before: usize,
     room: usize,
 ) -> Result<Transcript, AllocError>
     requires { before + length text.now < 2 ^ 64 }
-    ensures { IfOk result (λ t. (p : PlanOf) → Site p (B.Board.meaning board.now) (B.PlacedBoard.places board.now) pads.now →
+    ensures { IfOk result (λ t. (p : PlanOf) → Describes p (B.Board.meaning base) (B.PlacedBoard.places base) kept.now pads.now →
         Ends p room before (lines_of text.now) t.drawing.items t.said.items t.fault) }
 {
+    let board = keep_out(base, kept);
     let cells = board.cells() as usize;
     let mut desk = Desk {
         drawing: vec![in heap; Record::Free; cells]?,
-        work: vec![in heap; 0u16; 4 * cells]?,
-        report: vec![in heap; 0u16; 2 * cells]?,
+        work: vec![in heap; 0; 4 * cells]?,
+        report: vec![in heap; 0; 2 * cells]?,
     };
-    let said = make_calls(heap, board, pads, &mut desk, text, before, room)?;
+    let setting = Setting {
+        heap,
+        board: &board,
+        pads,
+        room,
+    };
+    let said = setting.make_calls(&mut desk, text, before)?;
     Ok(Transcript {
         drawing: desk.drawing,
         said: said.text,

@@ -11,6 +11,5 @@ fn main(rt: HostRuntime) -> io::Result<()> {
     rt.stdin().read_to_end(&mut job)?;
     let mut output = vec![in heap; 0u8; 65536]?;
     let end = run_job(heap, job.as_slice(), output.as_mut_slice());
-    let written = end.bytes;
-    rt.stdout().write_all(&output.as_slice()[0..written])
+    rt.stdout().write_all(&output.as_slice()[..end.bytes])
 }

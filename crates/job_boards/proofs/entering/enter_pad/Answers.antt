@@ -1,30 +1,35 @@
-use Rattle.std.proofs.Common.{map, refl, ap, inl, inr}
+use Rattle.std.proofs.Common.{map, refl, ap, inl, inr, arith}
 use Rattle.std.proofs.lemmas.Bool.{false≢true}
-use Rattle.job_boards.specs.Plans.{also_pad}
+use Rattle.boards.specs.Grids.{OnGrid}
+use Rattle.job_boards.specs.Plans.{layers, also_pad}
 use Rattle.job_boards.specs.Reading.{named, plan_of}
-use Rattle.job_boards.proofs.Entries.{same_plan, changed_map}
+use Rattle.job_boards.proofs.Entries.{same_plan}
+use Rattle.job_boards.proofs.Marks.{marked, or_pad}
 use Rattle.job_boards.proofs.Pads.{taken_wrong, free_right, named_push}
 use Rattle.job_boards.proofs.entering.enter_pad.Goals as goal
-
-pub returns-then-is_full : goal.returns-then-is_full
-returns-then-is_full c = (inl (refl, c.if-is_full.ensures.0 refl), refl)
 
 pub returns-then-is_taken : goal.returns-then-is_taken
 returns-then-is_taken c =
     let taken = taken_wrong (plan_of c.args.plan.now) _ (ap (map named) c.as_slice.ensures.value) _ _ _ (c.if-is_taken.ensures.0 refl) in
-    (inr (λ h. false≢true (c.if-is_full.ensures.1 h), inl (refl, taken)), refl)
+    rw c.into-then-is_taken.ensures (inr (λ h. false≢true (c.if-is_full.ensures.1 h), inl (refl, taken)), refl)
 
-pub returns-then-not-is_on_board : goal.returns-then-not-is_on_board
-returns-then-not-is_on_board c =
-    let free = free_right (plan_of c.args.plan.now) _ (ap (map named) c.as_slice.ensures.value) _ _ _ (λ t. false≢true (c.if-is_taken.ensures.1 t)) in
-    (inr (λ h. false≢true (c.if-is_full.ensures.1 h), inr (free, inr (λ x. x, inl (refl, λ on. false≢true (c.if-not-is_on_board.ensures.1 on))))), refl)
+pub returns-then-not-has : goal.returns-then-not-has
+returns-then-not-has c =
+    let plan = c.args.plan.now in
+    let free = free_right (plan_of plan) _ (ap (map named) c.as_slice.ensures.value) _ _ _ (λ t. false≢true (c.if-is_taken.ensures.1 t)) in
+    let off = rw c.place-place.ensures at (λ (on : OnGrid (layers plan.header.kind) plan.header.rows plan.header.columns c.place-place.result). false≢true (c.if-not-has.ensures.1 on)) in
+    rw c.into-then-not-has.ensures (inr (λ h. false≢true (c.if-is_full.ensures.1 h), inr (free, inr (λ x. x, inl (refl, off)))), refl)
 
 pub returns : goal.returns
 returns c =
-    let free = free_right (plan_of c.args.plan.now) _ (ap (map named) c.as_slice.ensures.value) _ _ _ (λ t. false≢true (c.if-is_taken.ensures.1 t)) in (
-      (λ h. false≢true (c.if-is_full.ensures.1 h), (free, (λ x. x, (λ off. off (c.if-not-is_on_board.ensures.0 refl), tt)))),
+    let plan = c.args.plan.now in
+    let free = free_right (plan_of plan) _ (ap (map named) c.as_slice.ensures.value) _ _ _ (λ t. false≢true (c.if-is_taken.ensures.1 t)) in
+    let on = rw c.place-place.ensures at (c.if-not-has.ensures.0 refl) in
+    let index = rw c.place-place.ensures at c.index_of-index.ensures.value in (
+      (λ h. false≢true (c.if-is_full.ensures.1 h), (free, (λ x. x, (λ off. off on, tt)))),
       same_plan _ _ _
-          (changed_map also_pad c.args.plan.now.map _ _ _ c.as_mut_slice.ensures.value c.mark_pad.auto.bytes c.mark_pad.ensures)
-          (named_push c.args.plan.now.pads.items c.push.new.self.items (record { name = c.args.name; row = c.args.row; column = c.args.column }) c.in_ok-push.ensures.items)
+          (marked also_pad plan.map.items _ _ c.index_mut.result.now _ (omega (arith, c.index_of-index.ensures.within, plan.full, plan.map.ok.0))
+          index c.index_mut.ensures.value (or_pad _))
+          (named_push plan.pads.items c.push.new.self.items c.args.new c.in_ok-push.ensures.items)
           refl,
     )

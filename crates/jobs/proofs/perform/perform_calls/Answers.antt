@@ -1,13 +1,12 @@
-use Rattle.std.proofs.Common.{[], replicate, ap, ◌∙◌, arith}
-use Rattle.records.specs.declared.record.Record.TheVariants.{Free}
+use Rattle.std.proofs.Common.{sym, subst}
+use Rattle.boards.specs.KeepOuts.{keep_out, is_closed}
+use Rattle.jobs.specs.Steps.{Site}
+use Rattle.jobs.proofs.Sites.{board_site}
 use Rattle.jobs.proofs.perform.perform_calls.Goals as goal
 
-pub make_calls-requires : goal.make_calls-requires
-make_calls-requires g c =
-    let d = c.in_ok-vec.ensures.items_if_clones_equal in
-    let fresh = d (λ y e. e) ∙ ap (λ n. replicate n Free) c.cells-cells.ensures in
-    record {
-      ready = record { history = []; upholds = tt; left = fresh; work_long = omega (arith, c.in_ok-vec-2.ensures.len, c.in_ok-vec-2.field-0.ok.0, c.cells-cells.ensures); report_long = omega (arith, c.in_ok-vec-3.ensures.len, c.in_ok-vec-3.field-0.ok.0, c.cells-cells.ensures) };
-      fresh = fresh;
-      countable = c.requires;
-    }
+pub returns : goal.returns
+returns g c = λ p d.
+    let over = c.keep_out-board.result in
+    let S : g.row.B.Denot → Type 0 =
+    λ b. Site p (keep_out (is_closed over.mask) (g.B.Board.meaning b)) (g.B.PlacedBoard.places b) c.args.pads.now in
+    c.in_ok-said.ensures p (subst S (sym c.keep_out-board.ensures.over) (board_site p _ _ _ _ (is_closed over.mask) d c.keep_out-board.ensures.closed))
