@@ -7,7 +7,7 @@ use Rattle.boards.specs.Meaning.{Meaning, Bounded, pad_at, landing_at, outlets_o
 use Rattle.boards.specs.Meanings.{made_in}
 use Rattle.linkages.specs.Lists.{Mem, here, there, Distinct, Disjoint, Next, begins, goes_on}
 use Rattle.linkages.specs.Paths.{Landing, Unbarred, Walk, stop, step, Path, Linkage, LandsOnce, upto_landing}
-use Rattle.linkages.specs.Nets.{first_of, OffNets}
+use Rattle.linkages.specs.Nets.{OffNets}
 use Rattle.linkages.proofs.Members.{mem_none, mem_at, mem_map, mem_of_map, dec_mem, held_or_not}
 use Rattle.linkages.proofs.Pigeons.{disjoint_paths}
 use Rattle.linkages.proofs.Walks.{walk_unbarred, upto_landing_front, front_within, truncated}
@@ -21,7 +21,7 @@ use Rattle.drawings.proofs.Cells.{kept_below, below_kept, distinct_kept_below}
 use Rattle.drawings.proofs.Said.{some_same, before_net, after_net, first_net, net_inside}
 use Rattle.drawings.proofs.Locals.{local_everywhere}
 use Rattle.drawings.proofs.Follow.{run_net, net_run, net_reached}
-use Rattle.drawings.proofs.Linking.{next_after, after_next}
+use Rattle.drawings.proofs.Linking.{run_begins, next_after, after_next}
 use Rattle.layouts.specs.Theorems.{Lays, LinkagesDraw}
 use Rattle.layouts.proofs.Laying.{Lies, lies_runs, lies_begins, lies_before, first_or_next, laid_all, laid_all_length, laid_all_outside, laid_all_lie, local_off}
 
@@ -43,10 +43,6 @@ walk_end (stop f e) (there k) = absurd (mem_none k)
 walk_end (step f o (stop g e)) (here h) = inr (_, begins h refl)
 walk_end (step f o (step g e w)) (here h) = inr (_, begins h refl)
 walk_end (step f o w) (there k) = elim (walk_end w k) [ inl e ↦ inl e | inr n ↦ inr (n.0, goes_on n.1) ]
-
-walk_first_of : {m : Meaning} {bars : List ℕ} {z a : ℕ} {xs : List ℕ} → Walk m bars z a xs → first_of xs ≡ a
-walk_first_of (stop f e) = refl
-walk_first_of (step f o w) = refl
 
 -- the list of a walk, with what lies there
 walk_lies : {m : Meaning} {bars : List ℕ} {z a : ℕ} {xs : List ℕ} {d : List Record} → Walk m bars z a xs → Lies d None xs → Runs d a xs × (first_at d a ≡ true)
@@ -199,7 +195,7 @@ module _ (m : Meaning) (barred pads : List ℕ) (B : Bounded m) (inside : (c : �
       let run = (d_run q i).0 in
       record {
         first_is_pad = λ p. elim (first_or_next k) [
-          | inl e ↦ ap (pad_at m) (e ∙ walk_first_of g.path.walk) ∙ are_pads q i
+          | inl e ↦ ap (pad_at m) (e ∙ run_begins run) ∙ are_pads q i
           | inr n ↦ absurd (first_alone (record_at d c) n.0 p (lies_before lies n.1))
         ];
         last_is_landing = λ p. elim (walk_end g.path.walk k) [
@@ -213,7 +209,7 @@ module _ (m : Meaning) (barred pads : List ℕ) (B : Bounded m) (inside : (c : �
         after_is_outlet = λ t e. walk_next g.path.walk (after_next run k e);
         after_names_back = λ t e. lies_before lies (after_next run k e);
         before_names_on = λ s e. elim (first_or_next k) [
-          | inl f ↦ absurd (first_alone (record_at d c) s (ap (first_at d) (f ∙ walk_first_of g.path.walk) ∙ (d_run q i).1) e)
+          | inl f ↦ absurd (first_alone (record_at d c) s (ap (first_at d) (f ∙ run_begins run) ∙ (d_run q i).1) e)
           | inr n ↦ subst (λ u. after_at d u ≡ Some c) (some_same (lies_before lies n.1) e) (next_after run n.1)
         ];
       }
@@ -254,7 +250,7 @@ module _ (m : Meaning) (barred pads : List ℕ) (B : Bounded m) (inside : (c : �
       let p = (kept_below (first_at d) (length d) c i).1 in
       let t = net_on c (first_net (record_at d c) p) in
       elim (first_or_next t.2) [
-        | inl e ↦ mem_at (e ∙ walk_first_of (good t.0 t.1).path.walk) t.1
+        | inl e ↦ mem_at (e ∙ run_begins (d_run t.0 t.1).0) t.1
         | inr n ↦ absurd (first_alone (record_at d c) n.0 p (lies_before (d_lies (course t.0) (pad_net t.0 t.1)) n.1))
       ]
 

@@ -14,6 +14,7 @@ use Rattle.boards.specs.Meanings.{made_in}
 use Rattle.boards.specs.GridsLemmas.{place_on_grid, cell_below, place_of_cell, beside_leads}
 use Rattle.linkages.specs.Lists.{Mem, here, there}
 use Rattle.linkages.proofs.Members.{mem_none}
+use Rattle.drawings.proofs.Said.{none_not_some, some_same}
 use Rattle.layouts.specs.declared.wires.Point.{Point}
 use Rattle.layouts.specs.Layouts.{Neighbours, on_layer}
 use Rattle.layouts.specs.Readings.{point_of}
@@ -43,12 +44,6 @@ pub data Move (C : ℕ) (bytes : List ℕ) (p q : Place) : Type 0 where
 
 -- ---- the numbers that are there
 
-some_one : {x y : ℕ} → Some x ≡ Some y → x ≡ y
-some_one e = cc
-
-pub no_some : {X Y : Type 0} {x : X} → Some x ≡ None → Y
-no_some e = let z : ◌≡◌ {A = ℕ} 0 1 = cc in let n : ⊥ = omega arith in absurd n
-
 of_somes : (d : ℕ) (xs : List (Option ℕ)) → Mem d (somes xs) → Mem (Some d) xs
 of_somes d [] k = absurd (mem_none k)
 of_somes d (Some x ∷ xs) (here e) = here (ap Some e)
@@ -57,9 +52,9 @@ of_somes d (None ∷ xs) k = there (of_somes d xs k)
 
 to_somes : (d : ℕ) (xs : List (Option ℕ)) → Mem (Some d) xs → Mem d (somes xs)
 to_somes d [] k = absurd (mem_none k)
-to_somes d (Some x ∷ xs) (here e) = here (some_one e)
+to_somes d (Some x ∷ xs) (here e) = here (some_same refl e)
 to_somes d (Some x ∷ xs) (there k) = there (to_somes d xs k)
-to_somes d (None ∷ xs) (here e) = no_some e
+to_somes d (None ∷ xs) (here e) = absurd (none_not_some (sym e))
 to_somes d (None ∷ xs) (there k) = to_somes d xs k
 
 module _ (R C : ℕ) (bytes : List ℕ) (sides : SidesAllowed R C) where
@@ -84,7 +79,7 @@ module _ (R C : ℕ) (bytes : List ℕ) (sides : SidesAllowed R C) where
     goes_by : (s : Step) → ((q : Place) → OnGrid 2 R C q → Leads s p q → passes s (byte_at C bytes p) ≡ true → pad_place C bytes q ≡ false → Move C bytes p q) →
         (o : Option Place) → beside 2 R C p s ≡ o → way_to R C bytes p s o ≡ Some d → Gone
     unfolding Gone
-    goes_by s f None e w = no_some (sym w)
+    goes_by s f None e w = absurd (none_not_some w)
     goes_by s f (Some q) e w =
         let h = when_some (passes s (byte_at C bytes p) && not (pad_place C bytes q)) (cell_of R C q) d w in
         let t = and_parts (passes s (byte_at C bytes p)) (not (pad_place C bytes q)) h.0 in

@@ -40,7 +40,8 @@ fn is_right_below<B: PlacedBoard>(board: &B, upper: u16, lower: u16) -> bool
     lower.layer as u32 == upper.layer as u32 + 1 && Point::from(lower) == Point::from(upper)
 }
 
-// The layer on which the net of a pad lies.
+// The layer on which the net of a pad lies. That the net comes to an end is a `requires` here and below, and no ghost field of a
+// struct with the pad: such a field holds propositions alone, and `Runs` is a relation given by its rules.
 fn net_layer<B: PlacedBoard>(board: &B, drawing: &[Record], pad: u16) -> Layer
     requires { Runs drawing.now pad (net drawing.now pad) }
     ensures { result ≡ lies_on (places_of (B.PlacedBoard.places board.now) (net drawing.now pad)) }
@@ -51,7 +52,8 @@ fn net_layer<B: PlacedBoard>(board: &B, drawing: &[Record], pad: u16) -> Layer
     }
 }
 
-// Writes the points of a net's cells on a layer to the front of a list, and gives back how many they are.
+// Writes the points of a net's cells on a layer to the front of a list, and gives back how many they are: the caller lends the
+// list, so the count stands beside it. A loop follows the net, since of an iterator of `successors` it is not known that it ends.
 fn list_points<B: PlacedBoard>(
     board: &B,
     drawing: &[Record],

@@ -26,7 +26,7 @@ fn is_marked(marks: &[u16], cell: usize) -> bool
     marks.get(cell) == Some(&1)
 }
 
-// Marks the cells from a cell to the end of its net.
+// Marks the cells from a cell to the end of its net. A loop, since of an iterator of `successors` it is not known that it ends.
 fn mark_net(drawing: &[Record], first: u16, marks: &mut [u16])
     requires { Runs drawing.now first (net drawing.now first) }
     ensures { marks.new ≡ marked (net drawing.now first) marks.old }

@@ -1,10 +1,10 @@
-use Rattle.std.proofs.Common.{◌≡◌, ℕ, true, length, get_or, sym, ap, ◌∙◌, arith}
+use Rattle.std.proofs.Common.{◌≡◌, ℕ, true, get_or, sym, ap, ◌∙◌, arith}
 use lib.ListN.{length-map}
 use Rattle.boards.specs.Places.{nowhere}
 use Rattle.records.specs.Records.{is_first}
 use Rattle.drawings.specs.Nets.{first_at, net, Runs}
 use Rattle.drawings.proofs.Follow.{net_runs, run_short}
-use Rattle.layouts.specs.Readings.{points_on, places_of, points_written}
+use Rattle.layouts.specs.Readings.{places_of}
 use Rattle.layouts.proofs.Readers.{points_few, may_read}
 use Rattle.layouts.proofs.reading.read_wire.Given.{Over}
 use Rattle.layouts.proofs.reading.read_wire.Goals as goal
@@ -39,14 +39,13 @@ overflow_cast-result g c =
 
 pub returns-clause-answer : goal.returns-clause-answer
 returns-clause-answer g c =
-    let qs = places_of (g.B.PlacedBoard.places c.args.board.now) (net c.args.drawing.now c.args.pad) in
     let l = c.net_layer-layer.ensures in
     let e = c.list_points-count.ensures in (
       may_read (g.B.Board.meaning c.args.board.now) c.args.drawing.now c.args.points.now c.args.pad (c.is_lawful.ensures.decides.0 c.if-not-is_lawful.false)
           (omega arith) (omega arith) (sym c.if-not-is_pad.ensures) (wired g (goal.at.returns-clause-answer g c).Else-not-is_first),
       record {
         layer_is = l;
-        count_is = e.count ∙ ap (λ k. length (points_on k qs)) l;
-        writes = e.writes ∙ ap (λ k. points_written (points_on k qs) c.args.points.now) l;
+        count_is = rw (← l) e.count;
+        writes = rw (← l) e.writes;
       },
     )
