@@ -38,14 +38,12 @@ fn has_pads(rows: u16, row: u16) -> bool {
     row >= start && (row - start) / 2 < start && (row - start) % 2 == 0
 }
 
+// The points of the field, row by row. It is kept out of `main`, so that the code that places is built as it is counted.
+#[inline(never)]
 fn map(heap: Global, rows: u16) -> Result<Vec<u8>, AllocError> {
-    let mut bytes = Vec::new(heap);
-    for row in 0..rows {
-        for column in 0..32 {
-            bytes.push(point(has_pads(rows, row), column))?;
-        }
-    }
-    Ok(bytes)
+    (0..rows)
+        .flat_map(|row| (0..32).map(move |column| point(has_pads(rows, row), column)))
+        .collect(heap)
 }
 
 // The i-th pad to be placed: 37 has no factor in common with the number of pads, so that each comes once, far from the last.
@@ -59,7 +57,8 @@ fn pad(rows: u16, i: u16) -> u16
     row * 32 + 8 + 2 * (k % 8)
 }
 
-// Places so many pads, and answers how many of them were accepted.
+// Places so many pads, and answers how many of them were accepted. The loop counts them itself, since each place changes the drawing
+// for the next, which a closure would have to capture.
 fn place_pads<B: Board>(heap: Global, board: &B, rows: u16, count: u16) -> Result<u16, AllocError>
     requires some { 0 < rows }
     requires rows { rows ≤ 64 }
@@ -88,10 +87,9 @@ fn place_pads<B: Board>(heap: Global, board: &B, rows: u16, count: u16) -> Resul
 
 // The next argument, or 0.
 fn number(args: &mut env::Args) -> u16 {
-    match args.next() {
-        Some(text) => text.as_str().parse().unwrap_or(0),
-        None => 0,
-    }
+    args.next()
+        .and_then(|text| text.as_str().parse().ok())
+        .unwrap_or(0)
 }
 
 fn main(rt: HostRuntime) -> io::Result<()> {

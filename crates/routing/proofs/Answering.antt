@@ -1,8 +1,9 @@
 -- Which number a call gives, and what it leaves.
-use Rattle.std.proofs.Common.{◌≡◌, ℕ, ◌*◌, ◌<◌, ◌≤◌, ◌⊎◌, List, ◌∷◌, ◌++◌, length, take, drop, replicate, sym, refl, ap, ◌∙◌, subst, inl, inr, ⊎_elim, arith}
-use Rattle.std.proofs.lemmas.List.{drop_at, length-append, length-drop, length-take-le}
+use Rattle.std.proofs.Common.{◌≡◌, ℕ, ◌*◌, ◌<◌, ◌≤◌, ◌⊎◌, true, List, ◌∷◌, ◌++◌, length, take, drop, replicate, Ok, Err, Result, sym, refl, ap, ◌∙◌, subst, inl, inr, ⊎_elim, arith}
+use Rattle.std.specs.Result.{MatchResult}
+use Rattle.std.proofs.lemmas.List.{length-take-le}
 use Rattle.boards.specs.Meaning.{Meaning}
-use Rattle.boards.specs.Refusals.{First, NoneHolds}
+use Rattle.boards.specs.Refusals.{First, NoneHolds, Answer}
 use Rattle.linkages.specs.Lists.{Mem}
 use Rattle.linkages.specs.Paths.{CanBeMet}
 use Rattle.linkages.proofs.OneFence.{no_linkage}
@@ -10,12 +11,14 @@ use Rattle.linkages.proofs.Fewer.{linkage_for_less}
 use Rattle.records.specs.declared.record.Record.{Record}
 use Rattle.records.specs.declared.refusal.Refusal.{Refusal}
 use Rattle.records.specs.declared.refusal.Refusal.TheVariants.{WrongDrawing, ShortWork, ShortReport, NotLawful, NoSuchCell, NotPad, WiredAlready, NotWired, BarredAlready, NotBarred, WiredPad, NoWay}
-use Rattle.drawings.specs.Nets.{wired, bars}
+use Rattle.records.specs.Records.{record_at}
+use Rattle.drawings.specs.Nets.{net_at, wired, bars}
 use Rattle.records.specs.Numbers.{number_of}
 use Rattle.drawings.specs.Conditions.{HasNoWay}
 use Rattle.drawings.proofs.Linking.{linked}
-use Rattle.routing.specs.Conditions.{PlaceStopped, BarStopped}
-use Rattle.routing.specs.Outcomes.{Zeroed, FenceShown, WiredAlso, Leaves}
+use Rattle.routing.specs.Conditions.{PlaceStopped, PlaceRefused, BarStopped, BarRefused}
+use Rattle.routing.specs.Outcomes.{Zeroed, FenceShown, WiredAlso, Routed, PadPlaced, Rerouted, CellBarred, Leaves}
+use Rattle.routing.proofs.Barring.{met_barred, as_net}
 
 -- ---- conditions that come before the search, and the last one
 
@@ -76,11 +79,34 @@ no_way m bars pads report report' a x s =
 
 -- ---- work memory
 
--- zeros written over the front, whatever was written there before
-pub zeroed : (m : Meaning) (work front zeros : List ℕ) (n k : ℕ) → n ≡ 4 * m.cells → k ≡ n → n ≤ length work → length front ≡ n →
-    zeros ≡ replicate (length (take k (front ++ drop k work))) 0 → Zeroed m work (zeros ++ drop k (front ++ drop k work))
-zeroed m work front zeros n k e f h l z =
-    let same : drop k (front ++ drop k work) ≡ drop (4 * m.cells) work = drop_at front (drop k work) k (omega arith) ∙ ap (λ i. drop i work) (omega arith) in
-    let long : length (take k (front ++ drop k work)) ≡ 4 * m.cells =
-    length-take-le k (front ++ drop k work) (simp (length-append, length-drop) (omega arith)) ∙ omega arith in
-    ap (λ xs. xs ++ drop k (front ++ drop k work)) (z ∙ ap (λ i. replicate i 0) long) ∙ ap (λ xs. replicate (4 * m.cells) 0 ++ xs) same
+-- zeros written over the front
+pub zeroed : (m : Meaning) (work now zeros : List ℕ) (n : ℕ) → n ≡ 4 * m.cells → n ≤ length work → length now ≡ length (take n work) →
+    zeros ≡ replicate (length now) 0 → Zeroed m work (zeros ++ drop n work)
+zeroed m work now zeros n e h l z =
+    ap (λ xs. xs ++ drop n work) (z ∙ ap (λ k. replicate k 0) (l ∙ length-take-le n work h)) ∙ ap (λ k. replicate k 0 ++ drop k work) e
+
+-- ---- how a call that searched ends
+
+-- r answers what the search found, with f of a landing
+abbrev pub Answers : (ℕ → ℕ) → Result ℕ (ℕ × ℕ) → Result ℕ Refusal → Type 0
+Answers f found r = MatchResult found (λ z. r ≡ Ok (f z)) (λ k. r ≡ Err (NoWay k.0 k.1))
+
+pub placed : (m : Meaning) (d e : List Record) (work work' report report' : List ℕ) (c : ℕ) (found : Result ℕ (ℕ × ℕ)) (r : Result ℕ Refusal) →
+    Answers (λ z. z) found r → NoneHolds (PlaceStopped m d work report c) → Routed m d e c report report' found → Zeroed m work work' →
+    Answer number_of (PlaceRefused m d work report c) (PadPlaced m d e work work' report report' c) r
+placed m d e work work' report report' c (Ok z) r says none w zeros = rw says (
+  none_holds (PlaceStopped m d work report c) (HasNoWay m (bars d) (c ∷ wired d)) none (λ no. no (can_be_met m d e c z w.0)),
+  record { wired_also = w.0; zeroed = zeros; report_kept = w.1 },
+)
+placed m d e work work' report report' c (Err k) r says none w zeros = rw says (
+    first_last (PlaceStopped m d work report c) (HasNoWay m (bars d) (c ∷ wired d)) none (no_way m (bars d) (c ∷ wired d) report report' k.0 k.1 w.1))
+
+pub barred : (m : Meaning) (d e : List Record) (work work' report report' : List ℕ) (c : ℕ) (found : Result ℕ (ℕ × ℕ)) (r : Result ℕ Refusal) →
+    Answers (λ _. 1) found r → NoneHolds (BarStopped m d work report c) → net_at d c ≡ true → Rerouted m d e c report report' found → Zeroed m work work' →
+    Answer number_of (BarRefused m d work report c) (CellBarred m d e work work' report report' c) r
+barred m d e work work' report report' c (Ok z) r says none on w zeros = rw says (
+  none_holds (BarStopped m d work report c) (HasNoWay m (c ∷ bars d) (wired d)) none (λ no. no (met_barred m d e c w.0)),
+  record { barred_also = w.0; as_it_was = as_net (record_at d c) m d e work work' c on zeros; report_kept = w.1 },
+)
+barred m d e work work' report report' c (Err k) r says none on w zeros = rw says (
+    first_last (BarStopped m d work report c) (HasNoWay m (c ∷ bars d) (wired d)) none (no_way m (c ∷ bars d) (wired d) report report' k.0 k.1 w.1))

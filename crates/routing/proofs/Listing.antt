@@ -5,6 +5,7 @@ use Rattle.std.proofs.lemmas.List.{append_assoc, append-nil, drop_more, drop-dro
 use borrow.Rule.Slice.PartMut.{put_mid}
 use Rattle.drawings.specs.Changes.{written}
 use Rattle.drawings.proofs.Cells.{kept_below_more}
+use Rattle.routing.specs.Showing.{WritesPassing}
 
 -- one number more
 pub written_more : (xs ys : List ℕ) (x : ℕ) → length xs < length ys → set (written xs ys) (length xs) x ≡ written (xs ++ x ∷ []) ys
@@ -20,26 +21,27 @@ written_two xs ys zs =
     sym (append_assoc xs ys (drop (length ys) (drop (length xs) zs))) ∙
     ap (λ ws. (xs ++ ys) ++ ws) (drop-drop (length ys) (length xs) zs ∙ ap (λ k. drop k zs) (sym (length-append xs ys)))
 
-module _ (p : ℕ → Bool) (n : ℕ) (was now : List ℕ) (count : ℕ)
-    (long : count ≡ length (filter p (range_with_len 0 n))) (same : now ≡ written (filter p (range_with_len 0 n)) was) where
-  -- one cell more that passes
-  pub listed_more : p n ≡ true → count < length was →
-      (count + 1 ≡ length (filter p (range_with_len 0 (n + 1)))) × (set now count n ≡ written (filter p (range_with_len 0 (n + 1))) was)
-  listed_more e h =
+module _ (p : ℕ → Bool) (n : ℕ) (before now : List ℕ) (count : ℕ) (so_far : WritesPassing p n before now count) where
+  -- one number more that passes
+  pub passing_more : p n ≡ true → count < length before → WritesPassing p (n + 1) before (set now count n) (count + 1)
+  passing_more e h =
       let xs = filter p (range_with_len 0 n) in
-      let more : filter p (range_with_len 0 (n + 1)) ≡ xs ++ n ∷ [] = kept_below_more p n ∙ ap (λ b. xs ++ cond b (n ∷ []) []) e in (
-        ap (λ k. k + 1) long ∙ (sym (length_push xs n) ∙ sym (ap length more)),
-        ap (λ zs. set zs count n) same ∙ (ap (λ k. set (written xs was) k n) long ∙
-            (written_more xs was n (omega arith) ∙ sym (ap (λ zs. written zs was) more))),
-      )
+      let more : filter p (range_with_len 0 (n + 1)) ≡ xs ++ n ∷ [] = kept_below_more p n ∙ ap (λ b. xs ++ cond b (n ∷ []) []) e in
+      record {
+        counts = ap (λ k. k + 1) so_far.counts ∙ (sym (length_push xs n) ∙ sym (ap length more));
+        writes = ap (λ zs. set zs count n) so_far.writes ∙ (ap (λ k. set (written xs before) k n) so_far.counts ∙
+            (written_more xs before n (omega (arith, so_far.counts)) ∙ sym (ap (λ zs. written zs before) more)));
+      }
 
   -- one that does not
-  pub listed_same : p n ≡ false →
-      (count ≡ length (filter p (range_with_len 0 (n + 1)))) × (now ≡ written (filter p (range_with_len 0 (n + 1))) was)
-  listed_same e =
+  pub passing_same : p n ≡ false → WritesPassing p (n + 1) before now count
+  passing_same e =
       let xs = filter p (range_with_len 0 n) in
       let more : filter p (range_with_len 0 (n + 1)) ≡ xs = kept_below_more p n ∙ (ap (λ b. xs ++ cond b (n ∷ []) []) e ∙ append-nil xs) in
-      (long ∙ sym (ap length more), same ∙ sym (ap (λ zs. written zs was) more))
+      record {
+        counts = so_far.counts ∙ sym (ap length more);
+        writes = so_far.writes ∙ sym (ap (λ zs. written zs before) more);
+      }
 
 -- a second list written to what comes after a first
 pub written_part : (A X R R₁ Y : List ℕ) (a : ℕ) → a ≡ length A → R₁ ≡ written A R → Y ≡ written X (take (length R₁ - a) (drop a R₁)) →

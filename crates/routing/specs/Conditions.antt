@@ -6,6 +6,19 @@ use Rattle.drawings.specs.Nets.{first_at, barred_at, wired, bars}
 use Rattle.drawings.specs.Lawful.{Lawful}
 use Rattle.drawings.specs.Conditions.{IsWrongDrawing, IsShortWork, IsShortReport, IsNotLawful, IsNoSuchCell, IsNotPad, IsWired, IsBarred, HasNoWay}
 
+-- those that place and bar look at alike
+abbrev pub SearchStopped : Meaning → List Record → List ℕ → List ℕ → ℕ → ℕ → Type 0
+SearchStopped m d work report c n =
+    ((n ≡ 1) × IsWrongDrawing m d) ⊎ (((n ≡ 2) × IsShortWork m work) ⊎ (((n ≡ 3) × IsShortReport m report) ⊎ (((n ≡ 4) × IsNotLawful m d)
+    ⊎ ((n ≡ 5) × IsNoSuchCell m c))))
+
+-- what holds if none of these does
+pub record Searchable (m : Meaning) (d : List Record) (work report : List ℕ) (c : ℕ) : Type 0 where
+  pub lawful : Lawful m d
+  pub work_long : 4 * m.cells ≤ length work
+  pub report_long : 2 * m.cells ≤ length report
+  pub inside : c < m.cells
+
 -- those that place looks at before it searches
 abbrev pub PlaceStopped : Meaning → List Record → List ℕ → List ℕ → ℕ → ℕ → Type 0
 PlaceStopped m d work report c n =

@@ -9,10 +9,10 @@ ghost use Rattle.records.specs.Numbers.{number_of};
 ghost use Rattle.routing.specs.Conditions.{BarStopped, Barrable, BarRefused};
 ghost use Rattle.routing.specs.Outcomes.{CellBarred, Fenced, Untouched, Leaves};
 
+use crate::checks::check_search;
 use crate::reroute::reroute_within;
 use crate::route::zero;
 use boards::board::Board;
-use drawings::lawful::is_lawful;
 use records::record::{Record, put, record_at};
 use records::refusal::Refusal;
 
@@ -27,21 +27,7 @@ fn check_bar<B: Board>(
     ensures { Answer number_of (BarStopped (B.meaning board.now) drawing.now work.now report.now cell)
         (λ _. Barrable (B.meaning board.now) drawing.now work.now report.now cell) result }
 {
-    if drawing.len() != board.cells() as usize {
-        return Err(Refusal::WrongDrawing);
-    }
-    if work.len() < 4 * board.cells() as usize {
-        return Err(Refusal::ShortWork);
-    }
-    if report.len() < 2 * board.cells() as usize {
-        return Err(Refusal::ShortReport);
-    }
-    if !is_lawful(board, drawing) {
-        return Err(Refusal::NotLawful);
-    }
-    if cell >= board.cells() {
-        return Err(Refusal::NoSuchCell);
-    }
+    check_search(board, drawing, work, report, cell)?;
     if record_at(drawing, cell).is_barred() {
         return Err(Refusal::BarredAlready);
     }
@@ -67,18 +53,15 @@ pub fn bar<B: Board>(
         (Fenced (B.meaning board.now) drawing.old drawing.new (cell ∷ bars drawing.old) (wired drawing.old)
         work.old work.new report.old report.new)) }
 {
-    if let Err(refusal) = check_bar(board, drawing, work, report, cell) {
-        return Err(refusal);
-    }
+    check_bar(board, drawing, work, report, cell)?;
     if !record_at(drawing, cell).is_net() {
         put(drawing, cell, Record::Barred);
         return Ok(0);
     }
-    let end = 4 * board.cells() as usize;
-    let found = reroute_within(board, drawing, &mut work[0..end], report, cell);
-    zero(&mut work[0..end]);
-    match found {
-        Ok(_) => Ok(1),
-        Err((pads, cells)) => Err(Refusal::NoWay { pads, cells }),
-    }
+    let work = &mut work[..4 * board.cells() as usize];
+    let found = reroute_within(board, drawing, work, report, cell);
+    zero(work);
+    found
+        .map(|_| 1)
+        .map_err(|(pads, cells)| Refusal::NoWay { pads, cells })
 }

@@ -2,6 +2,7 @@
 #![tactic(auto)]
 
 pub mod bar;
+mod checks;
 pub mod claims;
 pub mod fence;
 pub mod place;

@@ -9,9 +9,9 @@ ghost use Rattle.records.specs.Numbers.{number_of};
 ghost use Rattle.routing.specs.Conditions.{PlaceStopped, Placeable, PlaceRefused};
 ghost use Rattle.routing.specs.Outcomes.{PadPlaced, Fenced, Untouched, Leaves};
 
+use crate::checks::check_search;
 use crate::route::{route_within, zero};
 use boards::board::Board;
-use drawings::lawful::is_lawful;
 use records::record::{Record, record_at};
 use records::refusal::Refusal;
 
@@ -26,21 +26,7 @@ fn check_place<B: Board>(
     ensures { Answer number_of (PlaceStopped (B.meaning board.now) drawing.now work.now report.now cell)
         (λ _. Placeable (B.meaning board.now) drawing.now work.now report.now cell) result }
 {
-    if drawing.len() != board.cells() as usize {
-        return Err(Refusal::WrongDrawing);
-    }
-    if work.len() < 4 * board.cells() as usize {
-        return Err(Refusal::ShortWork);
-    }
-    if report.len() < 2 * board.cells() as usize {
-        return Err(Refusal::ShortReport);
-    }
-    if !is_lawful(board, drawing) {
-        return Err(Refusal::NotLawful);
-    }
-    if cell >= board.cells() {
-        return Err(Refusal::NoSuchCell);
-    }
+    check_search(board, drawing, work, report, cell)?;
     if !board.is_pad(cell) {
         return Err(Refusal::NotPad);
     }
@@ -69,14 +55,9 @@ pub fn place<B: Board>(
         (Fenced (B.meaning board.now) drawing.old drawing.new (bars drawing.old) (cell ∷ wired drawing.old)
         work.old work.new report.old report.new)) }
 {
-    if let Err(refusal) = check_place(board, drawing, work, report, cell) {
-        return Err(refusal);
-    }
-    let end = 4 * board.cells() as usize;
-    let found = route_within(board, drawing, &mut work[0..end], report, cell);
-    zero(&mut work[0..end]);
-    match found {
-        Ok(landing) => Ok(landing),
-        Err((pads, cells)) => Err(Refusal::NoWay { pads, cells }),
-    }
+    check_place(board, drawing, work, report, cell)?;
+    let work = &mut work[..4 * board.cells() as usize];
+    let found = route_within(board, drawing, work, report, cell);
+    zero(work);
+    found.map_err(|(pads, cells)| Refusal::NoWay { pads, cells })
 }

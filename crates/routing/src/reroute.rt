@@ -67,7 +67,7 @@ pub fn reroute<B: Board>(
     let count = shut(drawing, pad, cell, spare);
     let found = route(board, drawing, visits, spare, report, pad);
     if found.is_err() {
-        lay(drawing, &spare[0..count]);
+        lay(drawing, &spare[..count]);
     }
     found
 }

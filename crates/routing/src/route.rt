@@ -21,8 +21,8 @@ pub fn zero(numbers: &mut [u16])
 }
 
 // Wires an unwired and unbarred pad of a lawful drawing, moving wires as need be, and gives back the landing that is used then.
-// Where there is no way it writes the fence to report memory and gives back its pads and cells by number; the drawing and the
-// spare numbers are as before.
+// Where there is no way it writes the fence to report memory and gives back its pads and cells by number, as a pair, which is the
+// form that every refused search has; the drawing and the spare numbers are as before.
 pub fn route<B: Board>(
     board: &B,
     drawing: &mut [Record],
@@ -45,8 +45,7 @@ pub fn route<B: Board>(
         Some(landing) => {
             let last = visits.count - 1;
             let first = trace(visits, last, spare);
-            let end = spare.len();
-            rewire(board, drawing, &spare[first..end], visits.entered);
+            rewire(board, drawing, &spare[first..], visits.entered);
             Ok(landing)
         }
         None => Err(write_fence(drawing, visits.marks(), pad, report)),

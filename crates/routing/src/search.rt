@@ -121,6 +121,9 @@ fn is_open<B: Board>(board: &B, drawing: &[Record], cell: u16) -> bool
 
 // Searches from a cell that is not barred: enters all that can be entered, until it enters a landing that is neither barred
 // nor on a net. Gives back that landing, or none.
+//
+// The queue grows while the search goes along it, so its places are counted by hand; and the loops are left at once, by a label,
+// where a landing was entered, so the outlets are no chain of iterators.
 pub fn search<B: Board>(
     board: &B,
     drawing: &[Record],

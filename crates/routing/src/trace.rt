@@ -22,5 +22,6 @@ pub fn trace(visits: &Visits<'_>, last: u16, trail: &mut [u16]) -> usize
         }
         place = visits.from[place as usize];
     }
+    // There is room for all places up to `last`, and each step goes back to an earlier one.
     unreachable!()
 }

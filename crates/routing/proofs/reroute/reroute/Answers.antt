@@ -1,4 +1,4 @@
-use Rattle.std.proofs.Common.{◌≡◌, ℕ, ◌-◌, true, false, List, ◌∷◌, length, take, drop, Result, Ok, Err, OnErr, sym, ap, ◌∙◌, subst, arith}
+use Rattle.std.proofs.Common.{◌≡◌, ℕ, true, false, List, ◌∷◌, length, take, drop, Result, Ok, Err, OnErr, sym, ap, ◌∙◌, subst, arith}
 use Rattle.std.specs.Result.{is_err}
 use Rattle.std.proofs.lemmas.List.{take_at}
 use Rattle.std.proofs.lemmas.Bool.{false≢true}
@@ -36,9 +36,9 @@ route-found-requires g c =
     }
 
 -- the net laid again from where it was listed
-again : (d D E : List Record) (xs zs ss ss' : List ℕ) (n : ℕ) → laid xs D ≡ d → n ≡ length xs → zs ≡ written xs ss → ss' ≡ zs → E ≡ D → laid (take (n - 0) ss') E ≡ d
+again : (d D E : List Record) (xs zs ss ss' : List ℕ) (n : ℕ) → laid xs D ≡ d → n ≡ length xs → zs ≡ written xs ss → ss' ≡ zs → E ≡ D → laid (take n ss') E ≡ d
 again d D E xs zs ss ss' n back long wrote kept same =
-    let front : take (n - 0) ss' ≡ xs = ap (take (n - 0)) (kept ∙ wrote) ∙ take_at xs (drop (length xs) ss) (n - 0) (omega arith) in
+    let front : take n ss' ≡ xs = ap (take n) (kept ∙ wrote) ∙ take_at xs (drop (length xs) ss) n (omega arith) in
     ap (λ ys. laid ys E) front ∙ (ap (laid xs) same ∙ back)
 
 module _ (m : Meaning) (d : List Record) (q x : ℕ) (W : Lawful m d) (first : first_at d q ≡ true) (along : Mem x (net d q)) (D e : List Record)
