@@ -29,13 +29,6 @@ fn perform<B: Board>(board: &B, drawing: &mut [Record], call: &mut Call)
     ensures { Performed (B.meaning board.now) drawing.old drawing.new call.old call.new }
 {
     let Order { kind, cell } = call.order;
-    let answer = step(
-        board,
-        drawing,
-        kind,
-        cell,
-        call.work.as_mut_slice(),
-        call.report.as_mut_slice(),
-    );
+    let answer = step(board, drawing, kind, cell, &mut call.work, &mut call.report);
     call.answer = Some(answer);
 }
