@@ -9,7 +9,6 @@ use boards::escape::Escape;
 use boards::field::Field;
 use boards::maps::{MapKind, check_map};
 use boards::place::PlacedBoard;
-use boards::refusal::BoardRefusal;
 use runs::calls::Order;
 use std::alloc::{AllocError, Global};
 
@@ -33,8 +32,7 @@ fn report_sheet(heap: Global, sheet: Sheet) -> Result<String, AllocError> {
     } = shape;
     if let Err(refusal) = check_map(kind, rows, columns, &bytes) {
         let number = refusal.number();
-        let meaning = meaning(refusal);
-        return format!(in heap; "refused, {number}: {meaning}\n");
+        return format!(in heap; "refused, {number}: {refusal}\n");
     }
     match kind {
         MapKind::FieldMap => {
@@ -67,15 +65,4 @@ fn report_board<B: PlacedBoard>(
     format!(in heap;
         "{shape}: {cells} cells, {pads} pads, {landings} landings\n{answers}{courses}{picture}\n{LEGEND}\n"
     )
-}
-
-// A refusal in words.
-fn meaning(refusal: BoardRefusal) -> &'static str {
-    match refusal {
-        BoardRefusal::Sides =>
-            "rows and columns are 1 to 64 each, and at most 2048 points together",
-        BoardRefusal::Length => "the map has not one byte for each point",
-        BoardRefusal::Byte => "the map has a byte that means nothing on such a board",
-        BoardRefusal::OffBoard => "a point or a cell is off the board",
-    }
 }

@@ -4,7 +4,7 @@ ghost use Rattle.records.specs.Numbers.{number_of};
 ghost use Rattle.routing.specs.Conditions.{SearchStopped, Searchable};
 
 use boards::board::Board;
-use drawings::lawful::is_lawful;
+use drawings::checks::{check_cell, check_size};
 use records::record::Record;
 use records::refusal::Refusal;
 
@@ -19,20 +19,12 @@ pub(crate) fn check_search<B: Board>(
     ensures { Answer number_of (SearchStopped (B.meaning board.now) drawing.now work.now report.now cell)
         (λ _. Searchable (B.meaning board.now) drawing.now work.now report.now cell) result }
 {
-    if drawing.len() != board.cells() as usize {
-        return Err(Refusal::WrongDrawing);
-    }
+    check_size(board, drawing)?;
     if work.len() < 4 * board.cells() as usize {
         return Err(Refusal::ShortWork);
     }
     if report.len() < 2 * board.cells() as usize {
         return Err(Refusal::ShortReport);
     }
-    if !is_lawful(board, drawing) {
-        return Err(Refusal::NotLawful);
-    }
-    if cell >= board.cells() {
-        return Err(Refusal::NoSuchCell);
-    }
-    Ok(())
+    check_cell(board, drawing, cell)
 }
