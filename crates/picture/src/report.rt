@@ -33,8 +33,8 @@ fn report_sheet(heap: Global, sheet: Sheet) -> Result<String, AllocError> {
     } = shape;
     if let Err(refusal) = check_map(kind, rows, columns, &bytes) {
         let number = refusal.number();
-        let meaning = meaning(refusal);
-        return format!(in heap; "refused, {number}: {meaning}\n");
+        let sentence = meaning(refusal);
+        return format!(in heap; "refused, {number}: {sentence}\n");
     }
     match kind {
         MapKind::FieldMap => {
