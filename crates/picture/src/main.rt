@@ -19,5 +19,5 @@ use std::io;
 fn main(rt: HostRuntime) -> io::Result<()> {
     let heap = rt.alloc();
     let text = io::read_to_string(heap, rt.stdin())?;
-    rt.print(report(heap, text.as_str())?)
+    rt.print(report(heap, &text)?)
 }

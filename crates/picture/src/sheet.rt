@@ -1,5 +1,5 @@
 // A map and the calls on it, as a text gives them.
-ghost use Rattle.std.specs.Prelude.{◌≡◌, ◌↔◌, true, false, Err, OnOk};
+ghost use Rattle.std.specs.Prelude.{◌≡◌, true, false, Err, OnOk};
 ghost use Rattle.picture.specs.Rows.{ReadsRow};
 ghost use Rattle.picture.specs.declared.sheet.SheetError.TheVariants.{Memory};
 

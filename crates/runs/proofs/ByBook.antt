@@ -1,7 +1,6 @@
 -- The conditions of the calls, said of the drawing that stands and of the book.
-use Rattle.std.proofs.Common.{◌≡◌, ℕ, ◌<◌, Bool, true, false, not, eqb, List, ◌∷◌, length, Ok, Err, Result, sym, refl, ap, ◌∙◌, inl, inr, ⊎_elim, arith}
+use Rattle.std.proofs.Common.{◌≡◌, ℕ, ◌<◌, Bool, true, false, not, eqb, List, ◌∷◌, length, Ok, Err, Result, sym, refl, arith}
 use Rattle.std.proofs.lemmas.List.{get_or_past}
-use Rattle.std.proofs.lemmas.Bool.{cases_lt, cases_Bool, both_ways, false≢true}
 use Rattle.boards.specs.Meaning.{Meaning}
 use Rattle.boards.specs.Refusals.{Answer}
 use Rattle.linkages.specs.Lists.{Mem, here, there, Within, Same}

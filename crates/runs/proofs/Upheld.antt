@@ -1,5 +1,5 @@
 -- A call that does what its kind promises upholds the claim.
-use Rattle.std.proofs.Common.{◌≡◌, ℕ, ◌⊎◌, List, ◌∷◌, IfErr, Ok, Err, Result, sym, subst, inl, inr, arith}
+use Rattle.std.proofs.Common.{◌≡◌, ℕ, ◌⊎◌, List, ◌∷◌, IfErr, Ok, Err, Result, sym, subst, inl, inr}
 use Rattle.boards.specs.Meaning.{Meaning}
 use Rattle.boards.specs.Refusals.{Answer}
 use Rattle.records.specs.declared.record.Record.{Record}
