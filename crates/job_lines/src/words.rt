@@ -21,10 +21,14 @@ pub fn same(a: &[u8], b: &[u8]) -> bool
 pub fn is_name(word: &[u8]) -> bool
     ensures { Decides result (Name word.now) }
 {
-    (1..=8).contains(&word.len())
-        && word
-            .iter()
-            .all(|b| b.is_ascii_uppercase() || b.is_ascii_digit())
+    (1..=8).contains(&word.len()) && word.iter().all(|b| is_name_byte(*b))
+}
+
+// Whether a byte is a capital letter or a digit.
+fn is_name_byte(byte: u8) -> bool
+    ensures { Decides result (NameByte byte) }
+{
+    byte.is_ascii_uppercase() || byte.is_ascii_digit()
 }
 
 // The number that a word writes: one to four digits with no leading zero except 0 itself.
