@@ -1,9 +1,12 @@
 -- Marking a point of a map.
-use Rattle.std.proofs.Common.{◌≡◌, ℕ, ◌+◌, ◌*◌, ◌/◌, ◌%◌, ◌^◌, ◌<◌, ◌⊎◌, List, length, get_or, set, bit_or, sym, refl, ap, ◌∙◌, inl, inr, ⊎_elim, arith, lit<}
+use Rattle.std.proofs.Common.{◌≡◌, ℕ, ◌+◌, ◌*◌, ◌/◌, ◌%◌, ◌^◌, ◌<◌, ◌≤◌, ◌⊎◌, List, length, get_or, set, bit_or, sym, refl, ap, ◌∙◌, inl, inr, ⊎_elim, arith, lit<}
 use Rattle.std.specs.Int.Bits.{or_zero_r}
-use Rattle.std.proofs.lemmas.Nat.{or_block}
+use Rattle.std.proofs.lemmas.Nat.{or_block, or_lt}
 use Rattle.std.proofs.lemmas.Grind.{get_or_default_zero}
 use Rattle.std.proofs.lemmas.Bool.{cases_eq, cond-true, cond-false, eq-eqb, ne_eqb}
+use Rattle.boards.specs.declared.maps.MapKind.{MapKind}
+use Rattle.boards.specs.declared.maps.MapKind.TheVariants.{FieldMap, EscapeMap}
+use Rattle.boards.specs.Maps.{last_named}
 use Rattle.job_boards.specs.Plans.{also_pad, also_landing}
 
 -- the byte at i is written anew
@@ -41,3 +44,8 @@ or_landing b =
 
     lower : (b / 2 % 2 ≡ 1 → ⊥) → (b % 4 ≡ 0) ⊎ (b % 4 ≡ 1)
     lower n = ⊎_elim (λ k. inl k) (λ k. inr (omega arith)) (cases_eq (b % 4) 0)
+
+-- a byte that is named for its kind of board is so as a pad point
+pub pad_known : (kind : MapKind) (b : ℕ) → b ≤ last_named kind → bit_or b 1 ≤ last_named kind
+pad_known FieldMap b h = omega (arith, or_lt 2 b 1 (omega arith) (lit< tt))
+pad_known EscapeMap b h = omega (arith, or_lt 1 b 1 (omega arith) (lit< tt))

@@ -2,18 +2,17 @@
 use Rattle.std.proofs.Common.{◌≡◌, ℕ, suc, ◌+◌, ◌≤◌, List, [], length, Some, None, Ok, Err, Option, sym, subst, add-one, arith}
 use Rattle.job_lines.specs.declared.faults.LineFault.{LineFault}
 use Rattle.job_lines.specs.Lines.{lines_of, FirstLine}
-use Rattle.job_boards.specs.Plans.{Plan, Sound}
+use Rattle.job_boards.specs.Plans.{Plan}
 use Rattle.job_boards.specs.Reading.{LineEntered, Reaches, here, more, Over, Stops}
 use Rattle.job_boards.specs.declared.entering.Stop.TheVariants.{Fault, Call}
-use Rattle.job_boards.proofs.Sounding.{sound_entered}
 
 -- k lines of the text are read, the plan is p then, and the rest is to come
 abbrev pub ReadTo : Plan → List ℕ → ℕ → Plan → List ℕ → Type 0
-ReadTo start text k p rest = Reaches start (lines_of text) k p (lines_of rest) × Sound p × (k + length rest ≤ length text)
+ReadTo start text k p rest = Reaches start (lines_of text) k p (lines_of rest) × (k + length rest ≤ length text)
 
 module _ (start : Plan) (text : List ℕ) where
-  pub read_none : Sound start → ReadTo start text 0 start text
-  read_none s = (here, s, omega arith)
+  pub read_none : ReadTo start text 0 start text
+  read_none = (here, omega arith)
 
   pub read_more : (k : ℕ) (p q : Plan) (rest line left : List ℕ) (x : Unit {0}) → FirstLine rest line left → LineEntered p q line (Ok x) →
       ReadTo start text k p rest → ReadTo start text (k + 1) q left
@@ -23,7 +22,7 @@ module _ (start : Plan) (text : List ℕ) where
       let R : Plan → Type 0 = λ r. Reaches start (lines_of text) (suc k) r (lines_of left) in
       let reaches = subst Q (sym (add-one k)) (subst R (sym e.3) (more (subst P first.first h.0) e.1 e.2)) in
       let shorter = first.shorter in
-      (reaches, subst Sound (sym e.3) (sound_entered p e.0 e.1.right e.2 h.1), omega (arith, h.2))
+      (reaches, omega (arith, h.1))
 
 -- how the reading ends, with the plan p and so much to come
 module _ (start : Plan) (text : List ℕ) (k : ℕ) (p : Plan) (rest : List ℕ) (so_far : ReadTo start text k p rest) where

@@ -62,7 +62,7 @@ fn enter_pad<'a>(plan: &mut Plan<'a>, new: Pad<'a>) -> Result<(), Stop>
     if is_full(plan) {
         return Err(LineFault::OutOfPlace.into());
     }
-    if is_taken(plan.pads.as_slice(), new) {
+    if is_taken(&plan.pads, new) {
         return Err(LineFault::Names.into());
     }
     let place = new.place();

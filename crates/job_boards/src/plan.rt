@@ -1,5 +1,7 @@
 // What the lines about the board say.
-ghost use Rattle.std.specs.Prelude.{◌≡◌, ◌*◌, ◌↔◌, vec_len, IsTrue};
+ghost use Rattle.std.specs.Prelude.{◌≡◌, ◌*◌, ◌<◌, ◌≤◌, ◌↔◌, vec_len, IsTrue, All};
+ghost use Rattle.boards.specs.Maps.{last_named};
+ghost use Rattle.job_boards.specs.Plans.{layers};
 
 use crate::header::Header;
 use boards::place::Place;
@@ -43,4 +45,8 @@ pub struct Plan<'a> {
     pub pads: Vec<Pad<'a>>,
     pub kept: Vec<u16>,
     ghost full: { vec_len map ≡ header.rows * header.columns },
+    ghost known: { All (λ byte. byte ≤ last_named header.kind) map.items },
+    ghost few: { vec_len pads ≤ 128 },
+    ghost on_board: { All (λ pad. (pad.row < header.rows) × (pad.column < header.columns)) pads.items },
+    ghost cells: { All (λ cell. cell < layers header.kind * (header.rows * header.columns)) kept.items },
 }

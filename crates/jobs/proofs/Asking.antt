@@ -1,5 +1,5 @@
 -- What call lines ask for.
-use Rattle.std.proofs.Common.{◌≡◌, ℕ, List, Ok, sym, subst}
+use Rattle.std.proofs.Common.{◌≡◌, ℕ, List, Ok, subst}
 use Rattle.boards.specs.declared.place.Place as boards
 use Rattle.linkages.specs.Lists.{Mem}
 use Rattle.runs.specs.declared.calls.Kind.TheVariants as kind
@@ -20,20 +20,17 @@ module _ (p : Plan) (pads : List Named) (n : List ℕ) (at : boards.Place) (same
   has : HasName p n
   has = (found.0, there, found.2)
 
-  pub place_asked : {f : Form} → f ≡ place n → Right p f (call kind.Place) at
-  place_asked e = subst (λ (f : Form). Right p f (call kind.Place) at) (sym e)
-      ((λ x. x, (λ none. none has, (λ x. x, (λ x. x, tt)))), subst (Asks p (place n) (call kind.Place)) (sym found.3) (place_pad found.0 there found.2))
+  pub place_asked : Right p (place n) (call kind.Place) at
+  place_asked = ((λ x. x, (λ none. none has, (λ x. x, (λ x. x, tt)))), rw found.3 (place_pad found.0 there found.2))
 
-  pub lift_asked : {f : Form} → f ≡ lift n → Right p f (call kind.Lift) at
-  lift_asked e = subst (λ (f : Form). Right p f (call kind.Lift) at) (sym e)
-      ((λ x. x, (λ none. none has, (λ x. x, (λ x. x, tt)))), subst (Asks p (lift n) (call kind.Lift)) (sym found.3) (lift_pad found.0 there found.2))
+  pub lift_asked : Right p (lift n) (call kind.Lift) at
+  lift_asked = ((λ x. x, (λ none. none has, (λ x. x, (λ x. x, tt)))), rw found.3 (lift_pad found.0 there found.2))
 
-  pub show_asked : {f : Form} → f ≡ show n → Right p f (course_of n) at
-  show_asked e = subst (λ (f : Form). Right p f (course_of n) at) (sym e)
-      ((λ x. x, (λ none. none has, (λ x. x, (λ x. x, tt)))), subst (Asks p (show n) (course_of n)) (sym found.3) (show_pad found.0 there found.2))
+  pub show_asked : Right p (show n) (course_of n) at
+  show_asked = ((λ x. x, (λ none. none has, (λ x. x, (λ x. x, tt)))), rw found.3 (show_pad found.0 there found.2))
 
-pub bar_asked : (p : Plan) (l r c : ℕ) {f : Form} → f ≡ bar l r c → Right p f (call kind.Bar) (at_place l r c)
-bar_asked p l r c e = subst (λ (f : Form). Right p f (call kind.Bar) (at_place l r c)) (sym e) ((λ x. x, (λ x. x, (λ x. x, (λ x. x, tt)))), bar_cell)
+pub bar_asked : (p : Plan) (l r c : ℕ) → Right p (bar l r c) (call kind.Bar) (at_place l r c)
+bar_asked p l r c = ((λ x. x, (λ x. x, (λ x. x, (λ x. x, tt)))), bar_cell)
 
-pub clear_asked : (p : Plan) (l r c : ℕ) {f : Form} → f ≡ clear l r c → Right p f (call kind.Clear) (at_place l r c)
-clear_asked p l r c e = subst (λ (f : Form). Right p f (call kind.Clear) (at_place l r c)) (sym e) ((λ x. x, (λ x. x, (λ x. x, (λ x. x, tt)))), clear_cell)
+pub clear_asked : (p : Plan) (l r c : ℕ) → Right p (clear l r c) (call kind.Clear) (at_place l r c)
+clear_asked p l r c = ((λ x. x, (λ x. x, (λ x. x, (λ x. x, tt)))), clear_cell)

@@ -1,10 +1,9 @@
 -- One call, and the memory that it leaves.
-use Rattle.std.proofs.Common.{◌≡◌, ℕ, ◌*◌, ◌≤◌, List, ◌∷◌, length, Err, vec_items, Result, sym, ap, ◌∙◌, subst, inl, inr, arith}
+use Rattle.std.proofs.Common.{◌≡◌, ℕ, ◌*◌, ◌≤◌, List, ◌∷◌, length, vec_items, Result, ap, ◌∙◌, subst, inl, inr, arith}
 use Rattle.boards.specs.declared.place.Place.{Place}
 use Rattle.boards.specs.Meaning.{Meaning}
 use Rattle.records.specs.declared.record.Record.{Record}
 use Rattle.records.specs.declared.refusal.Refusal.{Refusal}
-use Rattle.records.specs.declared.refusal.Refusal.TheVariants.{NoSuchCell}
 use Rattle.runs.specs.declared.calls.Kind.{Kind}
 use Rattle.runs.specs.Histories.{History, stands}
 use Rattle.runs.specs.Claim.{Upholds, Claim}
@@ -54,9 +53,8 @@ ready_report m desk desk' R a b l = record {
 pub call_answered : (m : Meaning) (ps : List Place) (d e : List Record) (kind : Kind) (q : Place) (r : Result ℕ Refusal) (said : List ℕ) {w : Wish} → w ≡ call kind →
     Called m ps d e kind q r → said ≡ answer_line r → Answered m ps d w q e said
 call_answered m ps d e kind q r said {w} i C s =
-    subst (λ (v : Wish). Answered m ps d v q e said) (sym i) (subst (Answered m ps d (call kind) q e) (sym s) (go C))
+    rw (i, s) (go C)
   where
     go : Called m ps d e kind q r → Answered m ps d (call kind) q e (answer_line r)
-    go (inl h) = subst (λ (x : Result ℕ Refusal). Answered m ps d (call kind) q e (answer_line x)) (sym h.2)
-        (subst (λ (x : List Record). Answered m ps d (call kind) q x (answer_line (Err NoSuchCell))) (sym h.1) (no_cell h.0))
+    go (inl h) = rw (h.2, h.1) (no_cell h.0)
     go (inr h) = called h.1 h.2

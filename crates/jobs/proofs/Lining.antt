@@ -1,5 +1,5 @@
 -- One call line.
-use Rattle.std.proofs.Common.{◌≡◌, ℕ, ◌+◌, ◌<◌, ◌≤◌, true, false, List, Ok, Err, subst, ⊎_elim}
+use Rattle.std.proofs.Common.{◌≡◌, ℕ, ◌+◌, ◌<◌, ◌≤◌, true, false, List, Ok, Err, ⊎_elim}
 use Rattle.std.proofs.lemmas.Bool.{cases_lt, false≢true}
 use Rattle.boards.specs.declared.place.Place.{Place}
 use Rattle.boards.specs.Meaning.{Meaning}
@@ -7,7 +7,7 @@ use Rattle.records.specs.declared.record.Record.{Record}
 use Rattle.job_lines.specs.declared.faults.LineFault.{LineFault}
 use Rattle.job_lines.specs.Grammar.{Form}
 use Rattle.job_boards.specs.declared.plan.Pad.{Pad}
-use Rattle.job_boards.specs.Plans.{Plan, board_places}
+use Rattle.job_boards.specs.Plans.{Plan}
 use Rattle.job_boards.specs.Faults.{Says, call_lines, Faulty, wrong}
 use Rattle.jobs.specs.declared.orders.Order.{Order}
 use Rattle.jobs.specs.Calls.{Answered, LineAnswered}
@@ -22,8 +22,7 @@ line_answered p m ps pads bytes f o d e answer S says O A = record {
   wish = wish_of o.wish;
   where_at = o.place;
   asks = O.1;
-  answered = subst (λ (n : Meaning). Answered n (board_places p) d (wish_of o.wish) o.place e answer) S.means
-      (subst (λ (qs : List Place). Answered m qs d (wish_of o.wish) o.place e answer) S.lies A);
+  answered = rw (S.means, S.lies) at A;
 }
 
 pub line_faulty : (p : Plan) (bytes : List ℕ) (f : Form) (k : LineFault) → Says bytes f → Ordered p f (Err k) → Faulty (call_lines p) bytes k

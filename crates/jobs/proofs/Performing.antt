@@ -1,5 +1,5 @@
 -- Jobs from their parts: the first line, the board, the calls.
-use Rattle.std.proofs.Common.{◌≡◌, ℕ, ◌+◌, List, [], ◌∷◌, Some, None, Option, sym, subst}
+use Rattle.std.proofs.Common.{◌≡◌, ℕ, ◌+◌, List, [], ◌∷◌, Some, None, Option, subst}
 use Rattle.boards.specs.declared.maps.MapKind.{MapKind}
 use Rattle.records.specs.declared.record.Record.{Record}
 use Rattle.job_lines.specs.declared.faults.LineFault.{LineFault}
@@ -17,21 +17,14 @@ Ended d said x n k = (d ≡ []) × (said ≡ fault_line n k) × (x ≡ Some k)
 
 ended_job : (room : ℕ) (lines : List (List ℕ)) (n : ℕ) (k : LineFault) (d : List Record) (said : List ℕ) (x : Option LineFault) → Ended d said x n k →
     Job room lines [] (fault_line n k) (Some k) → Job room lines d said x
-ended_job room lines n k d said x E J =
-    subst (λ (y : Option LineFault). Job room lines d said y) (sym E.2)
-    (subst (λ (y : List ℕ). Job room lines d y (Some k)) (sym E.1)
-    (subst (λ (y : List Record). Job room lines y (fault_line n k) (Some k)) (sym E.0) J))
+ended_job room lines n k d said x E J = rw (E.0, E.1, E.2) J
 
 pub no_lines : (room : ℕ) (text : List ℕ) (d : List Record) (said : List ℕ) → text ≡ [] → d ≡ [] → said ≡ [] → Job room (lines_of text) d said None
-no_lines room text d said t e s =
-    subst (λ (y : List ℕ). Job room (lines_of y) d said None) (sym t)
-    (subst (λ (y : List ℕ). Job room [] d y None) (sym s)
-    (subst (λ (y : List Record). Job room [] y [] None) (sym e) empty))
+no_lines room text d said t e s = rw (t, e, s) empty
 
 pub first_faulty : (room : ℕ) (lines left : List (List ℕ)) (bytes : List ℕ) (k : LineFault) (d : List Record) (said : List ℕ) (x : Option LineFault) →
     lines ≡ bytes ∷ left → Faulty first_line bytes k → Ended d said x 1 k → Job room lines d said x
-first_faulty room lines left bytes k d said x l F E =
-    subst (λ (y : List (List ℕ)). Job room y d said x) (sym l) (ended_job room (bytes ∷ left) 1 k d said x E (bad_first F))
+first_faulty room lines left bytes k d said x l F E = rw l (ended_job room (bytes ∷ left) 1 k d said x E (bad_first F))
 
 module _ (room : ℕ) (bytes : List ℕ) (left : List (List ℕ)) (kind : MapKind) (R C k : ℕ) (p : Plan)
     (good : Good first_line bytes (header_form kind R C)) where

@@ -1,5 +1,5 @@
 -- Running a job on output memory.
-use Rattle.std.proofs.Common.{◌≡◌, ℕ, ◌≤◌, List, length, Option, sym, subst, ⊎_elim, arith}
+use Rattle.std.proofs.Common.{◌≡◌, ℕ, ◌≤◌, List, length, Option, ⊎_elim, arith}
 use Rattle.records.specs.declared.record.Record.{Record}
 use Rattle.drawings.specs.Changes.{written}
 use Rattle.job_lines.specs.declared.faults.LineFault.{LineFault}
@@ -18,6 +18,4 @@ module _ (text output : List ℕ) (d : List Record) (said : List ℕ) (x : Optio
 
   pub ran : (output' : List ℕ) (n : ℕ) (f : Option JobFault) → output' ≡ written said output → n ≡ length said → f ≡ line_fault x →
       JobRun text output output' n f
-  ran output' n f w l i =
-      subst (λ (g : Option JobFault). JobRun text output output' n g) (sym i)
-      (subst (λ (k : ℕ). JobRun text output output' k (line_fault x)) (sym l) (run (not_large text output few room) job said_fits w))
+  ran output' n f w l i = rw (i, l) (run (not_large text output few room) job said_fits w)

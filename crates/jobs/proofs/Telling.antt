@@ -1,5 +1,5 @@
 -- The answer to a show.
-use Rattle.std.proofs.Common.{◌≡◌, ℕ, ◌*◌, ◌≤◌, Bool, true, false, List, length, take, drop, Some, Ok, Err, vec_items, sym, refl, ap, ◌∙◌, subst, inr, arith, length-append}
+use Rattle.std.proofs.Common.{◌≡◌, ℕ, ◌*◌, ◌≤◌, Bool, true, false, List, length, take, drop, Some, Ok, Err, vec_items, sym, refl, ap, ◌∙◌, inr}
 use Rattle.std.proofs.lemmas.List.{take_at}
 use Rattle.boards.specs.declared.place.Place.{Place}
 use Rattle.boards.specs.Meaning.{Meaning}
@@ -22,7 +22,7 @@ use Rattle.jobs.proofs.Courses.{net_course}
 
 -- the drawing on a desk that is ready is lawful
 pub lawful_ready : (m : Meaning) (desk : Desk) → Ready m desk → (d : List Record) → d ≡ vec_items desk.drawing → Lawful m d
-lawful_ready m desk R d e = subst (Lawful m) (sym (e ∙ R.left)) (standing m R.history R.upholds).lawful
+lawful_ready m desk R d e = rw (e, R.left) (standing m R.history R.upholds).lawful
 
 true_else : (b : Bool) → (b ≡ false → ⊥) → b ≡ true
 true_else true n = refl
@@ -33,14 +33,11 @@ module _ (m : Meaning) (ps : List Place) (P : Placed m ps) (d : List Record) (W 
   wired : first_at d c ≡ true
   wired = true_else (first_at d c) (λ e. none 8 (inr (inr (inr (inr (inr (refl, e)))))))
 
-  pub cells_within : n ≤ length report'
-  cells_within = omega (arith, S.count, ap length S.writes, length-append (net d c) (drop (length (net d c)) report))
-
   pub cells_shown : take n report' ≡ net d c
   cells_shown = ap (take n) S.writes ∙ take_at (net d c) (drop (length (net d c)) report) n (sym S.count)
 
   pub course_there : (letters : List ℕ) × Course ps (take n report') letters
-  course_there = subst (λ (xs : List ℕ). (letters : List ℕ) × Course ps xs letters) (sym cells_shown) (net_course m d ps W P c wired)
+  course_there = rw cells_shown (net_course m d ps W P c wired)
 
   pub course_told : (name said : List ℕ) (q : Place) → place_at ps c ≡ Some q → 2 * m.cells ≤ length report →
       SaysCourse ps name (take n report') said → Answered m ps d (course_of name) q d said
@@ -49,7 +46,7 @@ module _ (m : Meaning) (ps : List Place) (P : Placed m ps) (d : List Record) (W 
     report_long = long;
     answer = Ok n;
     numbered = (none, S.count);
-    says = subst (λ (xs : List ℕ). SaysCourse ps name xs said) cells_shown says;
+    says = rw cells_shown at says;
   }
 
 pub refusal_told : (m : Meaning) (ps : List Place) (d : List Record) (report : List ℕ) (c : ℕ) (e : Refusal) (name said : List ℕ) (q : Place) →

@@ -1,7 +1,7 @@
 // Performing a job: reading its board, making its calls, and what is said to them.
 ghost use Rattle.std.specs.Prelude.{◌≡◌, ℕ, ◌+◌, ◌^◌, ◌<◌, List, [], ◌∷◌, length, IfOk, Some};
 ghost use Rattle.job_lines.specs.Lines.{lines_of};
-ghost use Rattle.job_boards.specs.Plans.{Plan as PlanOf, Sound};
+ghost use Rattle.job_boards.specs.Plans.{Plan as PlanOf};
 ghost use Rattle.job_boards.specs.Faults.{first_line, Good};
 ghost use Rattle.job_boards.specs.Reading.{plan_of, header_form};
 ghost use Rattle.job_answers.specs.Texts.{fault_line};
@@ -95,8 +95,7 @@ fn perform_plan(
     before: usize,
     room: usize,
 ) -> Result<Transcript, AllocError>
-    requires sound { Sound (plan_of plan) }
-    requires countable { before + length text.now < 2 ^ 64 }
+    requires { before + length text.now < 2 ^ 64 }
     ensures { IfOk result (λ t. Ends (plan_of plan.entry) room before (lines_of text.now) t.drawing.items t.said.items t.fault) }
 {
     let Plan {

@@ -1,14 +1,11 @@
-use Rattle.std.proofs.Common.{sym, subst}
-use Rattle.job_boards.specs.Plans.{Sound}
 use Rattle.job_boards.specs.Reading.{plan_of}
 use Rattle.job_boards.proofs.Readings.{read_none, read_more, Ended, no_line, at_call, at_fault}
-use Rattle.job_boards.proofs.Sounding.{sound_bare}
+use Rattle.job_boards.proofs.Sounding.{sound}
 use Rattle.job_boards.proofs.reading.read_board.Goals as goal
 use Rattle.job_boards.proofs.reading.read_board.Goals.{in_default, in-Some+in-Err-Call, in-Some+in-Err-Fault}
 
 pub loop-bytes-init : goal.loop-bytes-init
-loop-bytes-init c =
-    read_none _ _ (subst Sound (sym c.in_ok-plan.ensures) (sound_bare _ _ _ c.args.header.allowed))
+loop-bytes-init c = read_none _ _
 
 pub loop-bytes-preserved : goal.loop-bytes-preserved
 loop-bytes-preserved c =
@@ -24,4 +21,4 @@ returns c =
       | in-Some+in-Err-Fault w ↦
           rw (w.plan-is, w.fault-is, w.in-Err-Fault.field-0-is) (at_fault _ _ _ _ _ c.loop-bytes.invariant (plan_of w.enter_line.new.plan) _ _ w.in-Some.ensures w.in-Err-Fault.fault (rw w.in-Err-Fault.field-0-is at w.in-Err-Fault.ensures))
     ] in
-    record { reaches = rw c.in_ok-plan.ensures at end.0.0; stops = end.1; sound = end.0.1; within = end.0.2 }
+    record { reaches = rw c.in_ok-plan.ensures at end.0.0; stops = end.1; sound = sound c.match-next_line.plan; within = end.0.1 }
