@@ -1,4 +1,3 @@
 pub mod Held
 pub mod Masks
-pub mod Outlets
 pub mod SmallBoards

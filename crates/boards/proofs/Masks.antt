@@ -1,6 +1,6 @@
 -- Bits of a mask: setting one, and counting them all.
-use Rattle.std.proofs.Common.{◌≡◌, ℕ, zero, suc, ◌+◌, ◌-◌, ◌*◌, ◌/◌, ◌%◌, ◌^◌, ◌<◌, ◌≤◌, Bool, false, cond, ◌||◌, eqb, List, [], ◌∷◌, length, get_or, set, replicate, sum_by, count_by, sym, refl, ap, ◌∙◌, ⊎_elim, add-zero, add_assoc, pow-suc, zero-add, div-one, arith, get_or-set_other, get_or-set_same}
-use native.Mathlib.Nat.{div-eq_of_lt, div_self, mul-mod_left, zero-div}
+use Rattle.std.proofs.Common.{◌≡◌, ℕ, zero, suc, ◌+◌, ◌*◌, ◌/◌, ◌%◌, ◌^◌, ◌<◌, ◌≤◌, Bool, false, cond, ◌||◌, eqb, List, [], ◌∷◌, length, get_or, set, replicate, sum_by, count_by, sym, refl, ap, ◌∙◌, ⊎_elim, add-zero, add_assoc, pow-suc, zero-add, div-one, arith, get_or-set_other, get_or-set_same}
+use native.Mathlib.Nat.{zero-div}
 use lib.Bits.{bit_or}
 use mir.Syntax.{w64}
 use mir.Val.{bits}
@@ -9,10 +9,10 @@ use Rattle.std.proofs.lemmas.Nat.Bits.{bit_at_set_same, bit_at_set_other}
 use lib.Count.{ones, ones_step, ones-ones, ones-le}
 use lib.ListN.{get_or-replicate}
 use Rattle.std.specs.List.{range_with_len}
-use Rattle.std.proofs.lemmas.Nat.{pow_pos, pow-add, pow_below, shl-shr, shr-shr, or_shr, or_mod, div-add-mod', mod_below, div_below}
+use Rattle.std.proofs.lemmas.Nat.{shr-shr, div-add-mod', mod_below, div_below}
 use Rattle.std.proofs.lemmas.List.{get_or_past}
 use Rattle.std.proofs.lemmas.List.Sums.{sum_by-cons}
-use Rattle.std.proofs.lemmas.Bool.{cases_lt, cases_eq, cases_order, eq-eqb, ne_eqb, or_left}
+use Rattle.std.proofs.lemmas.Bool.{cases_lt, cases_eq, eq-eqb, ne_eqb, or_left}
 use Rattle.boards.specs.KeepOuts.{is_closed, closed_count}
 
 or_false : (x y : Bool) → x ≡ false → (x || y) ≡ y

@@ -7,7 +7,8 @@ use Rattle.std.proofs.lemmas.Bool.{cond-true, cond-false, and_right, cases_lt}
 use Rattle.boards.specs.declared.place.Place.{Place}
 use Rattle.boards.specs.Meaning.{Meaning, Bounded, at, when, outlet_at, outlets_of, pad_at, landing_at}
 use Rattle.boards.specs.Places.{Placed}
-use Rattle.boards.specs.KeepOuts.{keep_out}
+use Rattle.boards.specs.Maps.{somes}
+use Rattle.boards.specs.KeepOuts.{keep_out, if_open}
 use Rattle.boards.specs.Lists.{when_some, at_in, at_past}
 use Rattle.boards.specs.Meanings.{made_in, made_out, made_outlet, bounded_of}
 use Rattle.boards.specs.Somes.{length_somes, somes_from, kept_somes}
@@ -75,8 +76,19 @@ module _ (closed : ℕ → Bool) (m : Meaning) where
     pub outlet_closed : (j : ℕ) → closed c ≡ true → outlet_at (keep_out closed m) c j ≡ None
     outlet_closed j t = ap (λ xs. at xs j) (kept_outlets ∙ cond-true _ _ _ t) ∙ at_past [] j (omega arith)
 
-    pub outlet_open : (j : ℕ) → closed c ≡ false → outlet_at (keep_out closed m) c j ≡ at (filter (λ d. not (closed d)) (outlets_of m c)) j
-    outlet_open j t = ap (λ xs. at xs j) (kept_outlets ∙ cond-false _ _ _ t)
+    pub outlet_open : (j : ℕ) → closed c ≡ false → outlet_at (keep_out closed m) c j ≡ at (somes (outlets_if_open c)) j
+    outlet_open j t = ap (λ xs. at xs j) (kept_outlets ∙ cond-false _ _ _ t ∙ kept_somes (λ d. not (closed d)) (outlets_of m c))
+
+  -- the i-th of them is the i-th outlet below, if it is open
+  pub if_open_at : (c i : ℕ) → slice_index_or (outlets_if_open c) i None ≡ if_open closed (outlet_at m c i)
+  if_open_at c i = ⊎_elim
+      (λ h.
+      get_or-map (λ d. when (not (closed d)) d) (outlets_of m c) i 0 None h
+      ∙ ap (if_open closed) (sym (at_in (outlets_of m c) i h)))
+      (λ h.
+      get_or_past (outlets_if_open c) i None (simp length-map h)
+      ∙ ap (if_open closed) (sym (at_past (outlets_of m c) i h)))
+      (cases_lt i (length (outlets_of m c)))
 
   -- pads and landings are those below that are not closed
   module _ (marks : List Bool) (n : ℕ) (each : length marks ≡ n) where

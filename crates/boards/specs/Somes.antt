@@ -1,8 +1,9 @@
--- The numbers that are there in a list of options.
-use Rattle.std.specs.Prelude.{◌≡◌, ℕ, zero, suc, ◌<◌, ◌≤◌, Bool, true, false, cond, List, [], ◌∷◌, map, length, get_or, Some, None, filter, Option, slice_index, refl}
-use Rattle.std.proofs.Common.{ap, arith}
-use Rattle.boards.specs.Meaning.{when}
+-- The numbers that are there in a list of options: how many come before a place, and which one comes after so many.
+use Rattle.std.specs.Prelude.{◌≡◌, ℕ, zero, suc, ◌+◌, ◌<◌, ◌≤◌, Bool, true, false, cond, List, [], ◌∷◌, map, length, get_or, take, Some, None, filter, Option, slice_index, slice_index_or, refl}
+use Rattle.std.proofs.Common.{sym, ap, ◌∙◌, arith, add-one}
+use Rattle.boards.specs.Meaning.{at, when}
 use Rattle.boards.specs.Maps.{somes}
+use Rattle.boards.specs.Lists.{at_in, at_some}
 
 pub length_somes : (xs : List (Option ℕ)) → length (somes xs) ≤ length xs
 length_somes [] = omega arith
@@ -23,6 +24,44 @@ somes_from [] j h = let z : ⊥ = omega arith in absurd z
 somes_from (Some x ∷ xs) zero h = record { place = 0; below = omega arith; is = refl }
 somes_from (Some x ∷ xs) (suc j) h = later (somes_from xs j (omega arith))
 somes_from (None ∷ xs) j h = later (somes_from xs j h)
+
+no_some : {X : Type 0} {x : ℕ} → None ≡ Some x → X
+no_some e = let z : ◌≡◌ {A = ℕ} 0 1 = cc in let n : ⊥ = omega arith in absurd n
+
+-- one more that is there, and one that is not
+more : (xs : List (Option ℕ)) (i x : ℕ) → slice_index_or xs i None ≡ Some x → length (somes (take (suc i) xs)) ≡ length (somes (take i xs)) + 1
+more [] i x e = no_some e
+more (Some y ∷ xs) zero x e = refl
+more (None ∷ xs) zero x e = no_some e
+more (Some y ∷ xs) (suc i) x e = omega (arith, more xs i x e)
+more (None ∷ xs) (suc i) x e = more xs i x e
+
+same : (xs : List (Option ℕ)) (i : ℕ) → slice_index_or xs i None ≡ None → length (somes (take (suc i) xs)) ≡ length (somes (take i xs))
+same [] zero e = refl
+same [] (suc i) e = refl
+same (Some y ∷ xs) zero e = no_some (sym e)
+same (None ∷ xs) zero e = refl
+same (Some y ∷ xs) (suc i) e = omega (arith, same xs i e)
+same (None ∷ xs) (suc i) e = same xs i e
+
+module _ (xs : List (Option ℕ)) (i : ℕ) where
+  pub somes_more : (x : ℕ) → slice_index_or xs i None ≡ Some x → length (somes (take (i + 1) xs)) ≡ length (somes (take i xs)) + 1
+  somes_more x e = rw (add-one i) (more xs i x e)
+
+  pub somes_same : get_or xs i None ≡ None → length (somes (take (i + 1) xs)) ≡ length (somes (take i xs))
+  somes_same e = rw add-one (same xs i e)
+
+-- the one at a place, counted by those before it
+pub at_somes : (xs : List (Option ℕ)) (i j x : ℕ) → slice_index_or xs i None ≡ Some x → length (somes (take i xs)) ≡ j → at (somes xs) j ≡ Some x
+at_somes [] i j x e k = no_some e
+at_somes (Some y ∷ xs) zero zero x e k = at_in (y ∷ somes xs) 0 (omega arith) ∙ e
+at_somes (Some y ∷ xs) zero (suc j) x e k = let z : ⊥ = omega arith in absurd z
+at_somes (None ∷ xs) zero j x e k = no_some e
+at_somes (Some y ∷ xs) (suc i) zero x e k = let z : ⊥ = omega arith in absurd z
+at_somes (Some y ∷ xs) (suc i) (suc j) x e k =
+    let s = at_some (somes xs) j x (at_somes xs i j x e (omega arith)) in
+    at_in (y ∷ somes xs) (suc j) (omega arith) ∙ ap Some s.1
+at_somes (None ∷ xs) (suc i) j x e k = at_somes xs i j x e k
 
 -- a filter keeps the numbers that it lets through
 kept_go : (p : ℕ → Bool) (x : ℕ) (xs : List ℕ) (b : Bool) → filter p xs ≡ somes (map (λ y. when (p y) y) xs) →

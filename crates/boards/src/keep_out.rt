@@ -92,9 +92,17 @@ impl<B: Board> Board for KeepOut<B> {
         if self.is_closed(cell) {
             return None;
         }
-        (0..8)
-            .filter_map(|i| self.open_outlet(cell, i))
-            .nth(j as usize)
+        // A loop for its speed, as in `Spot::outlet`.
+        let mut left = j;
+        for i in 0..8 {
+            if let Some(next) = self.open_outlet(cell, i) {
+                if left == 0 {
+                    return Some(next);
+                }
+                left -= 1;
+            }
+        }
+        None
     }
 
     fn is_pad(&self, cell: u16) -> bool {

@@ -1,7 +1,4 @@
-use Rattle.std.proofs.Common.{◌/◌, ◌%◌, ◌<◌, length, get_or, set, refl, ap, ◌∙◌, arith}
-use lib.Bits.{bit_or}
-use Rattle.std.proofs.lemmas.Nat.{one_shl}
-use Rattle.boards.specs.KeepOuts.{is_closed}
+use Rattle.std.proofs.Common.{◌/◌, ◌<◌, length, refl, arith}
 use Rattle.boards.proofs.Masks.{closing}
 use Rattle.boards.proofs.keep_out.KeepOut.close.Goals as goal
 

@@ -1,5 +1,4 @@
-use Rattle.std.proofs.Common.{refl, ap, ◌∙◌}
-use Rattle.boards.specs.KeepOuts.{is_closed}
+use Rattle.std.proofs.Common.{refl}
 use Rattle.boards.proofs.Masks.{nothing_closed}
 use Rattle.boards.proofs.keep_out.KeepOut.new.Goals as goal
 

@@ -1,13 +1,12 @@
-use Rattle.std.proofs.Common.{◌≡◌, ℕ, ◌+◌, sym, ap, ◌∙◌, arith, rules}
-use borrow.Author.Tests.{tests}
-use Rattle.std.proofs.lemmas.Iterator.{YieldsList-from_range}
-use Rattle.std.proofs.lemmas.Iterator.Adapters.{option_map_id}
-use Rattle.std.proofs.lemmas.Iterator.Consumers.{nth_from_yields_List, YieldsList-from_filter_map, YieldsList-at}
-use Rattle.boards.specs.Meaning.{at, outlet_at, outlets_of}
-use Rattle.boards.specs.KeepOuts.{is_closed, if_open}
-use Rattle.boards.specs.Kept.{outlet_closed, outlet_open}
-use Rattle.boards.proofs.Outlets.{get_at, open_each}
+use Rattle.std.proofs.Common.{◌≤◌, length, sym, ◌∙◌, arith, take_all}
+use lib.ListN.{length-map}
+use Rattle.boards.specs.KeepOuts.{is_closed}
+use Rattle.boards.specs.Maps.{somes}
+use Rattle.boards.specs.Lists.{at_past}
+use Rattle.boards.specs.Somes.{somes_more, somes_same, at_somes}
+use Rattle.boards.specs.Kept.{outlets_if_open, if_open_at, outlet_closed, outlet_open}
 use Rattle.boards.proofs.keep_out.KeepOutBoard.outlet.Goals as goal
+use Rattle.boards.proofs.keep_out.KeepOutBoard.outlet.Goals.{in-Some+else-left-eq0, in_default}
 
 pub returns-then-is_closed : goal.returns-then-is_closed
 returns-then-is_closed g c =
@@ -15,18 +14,41 @@ returns-then-is_closed g c =
     let closed = is_closed c.args.self.now.mask in
     sym (outlet_closed closed (g.B.Board.meaning b) (g.met.B.Board.bounded b) c.args.cell c.args.j (sym c.if-is_closed.ensures))
 
+pub returns-then-left-eq0 : goal.returns-then-left-eq0
+returns-then-left-eq0 g c =
+    let closed = is_closed c.args.self.now.mask in
+    let b = c.args.self.now.board in
+    let m = g.B.Board.meaning b in
+    let cell = c.args.cell in
+    let i = c.loop-i.i in
+    let o = outlet_open closed m (g.met.B.Board.bounded b) cell c.args.j (sym c.if-is_closed.ensures) in
+    let e = if_open_at closed m cell i ∙ sym c.in-Some.ensures in
+    sym (o ∙ at_somes (outlets_if_open closed m cell) i c.args.j c.in-Some.next e (omega arith))
+
+pub loop-i-preserved : goal.loop-i-preserved
+loop-i-preserved g c =
+    let closed = is_closed c.args.self.now.mask in
+    let m = g.B.Board.meaning c.args.self.now.board in
+    let xs = outlets_if_open closed m c.args.cell in
+    let i = c.loop-i.i in
+    let at = if_open_at closed m c.args.cell i in
+    elim c.match-open_outlet.branch [
+      | in-Some+else-left-eq0 w ↦
+          let k = somes_more xs i w.in-Some.next (at ∙ sym w.in-Some.ensures) in
+          omega (arith, w.left-is, w.if-left-eq0.false, c.loop-i.invariant)
+      | in_default w ↦
+          let k = somes_same xs i (at ∙ sym w.in_default.ensures) in
+          omega (arith, w.left-is, c.loop-i.invariant)
+    ]
+
 pub returns : goal.returns
 returns g c =
     let closed = is_closed c.args.self.now.mask in
     let b = c.args.self.now.board in
     let m = g.B.Board.meaning b in
-    let bounded = g.met.B.Board.bounded b in
-    let cell = c.args.cell in
-    let j = c.args.j in
-    let f = λ (i : ℕ). if_open closed (outlet_at m cell i) in
-    let xs = outlets_of m cell in
-    let same = open_each closed xs 8 0 f (bounded.few_outlets cell)
-    (λ i. let e : 0 + i ≡ i = omega arith in ap f e ∙ ap (if_open closed) (sym (get_at xs i))) in
-    let nth = nth_from_yields_List c.nth.result _ j c.nth.ensures.ran
-    (YieldsList-from_filter_map _ f (YieldsList-at c.filter_map.ensures.source (YieldsList-from_range 0 8 8 (cc) (omega arith))) c.filter_map.ensures.closure (λ x r q k. search (rules, tests))) in
-    sym (option_map_id c.nth.result) ∙ nth ∙ get_at _ j ∙ ap (λ ys. at ys j) same ∙ sym (outlet_open closed m bounded cell j (sym c.if-is_closed.ensures))
+    let xs = outlets_if_open closed m c.args.cell in
+    let few = (g.met.B.Board.bounded b).few_outlets c.args.cell in
+    let short : length xs ≤ c.loop-i.i = simp length-map (omega arith) in
+    let inv = rw (take_all c.loop-i.i xs short) at c.loop-i.invariant in
+    let o = outlet_open closed m (g.met.B.Board.bounded b) c.args.cell c.args.j (sym c.if-is_closed.ensures) in
+    sym (o ∙ at_past (somes xs) c.args.j (omega arith))
