@@ -2,6 +2,7 @@
 use Rattle.std.proofs.Common.{◌≡◌, ℕ, Bool, true, false, not, ◌&&◌, eqb, ◌⊎◌, List, [], ◌∷◌, length, Some, filter, sym, refl, ap, ◌∙◌, inl, inr, ⊎_elim}
 use Rattle.std.specs.List.{range_with_len}
 use Rattle.std.proofs.lemmas.Bool.{both_ways, false≢true, eq-eqb, ne_eqb, cases_eq, cases_Bool, and_right, and_left}
+use Rattle.std.proofs.lemmas.List.Elements.{filter_agree}
 use Rattle.boards.specs.Meaning.{Meaning, landing_at}
 use Rattle.linkages.specs.Lists.{Mem, here, there}
 use Rattle.records.specs.declared.record.Record.{Record}
@@ -11,7 +12,7 @@ use Rattle.drawings.specs.Lawful.{Local, Reached, first, next, Lawful}
 use Rattle.drawings.specs.Changes.{freed}
 use Rattle.drawings.specs.Outcomes.{Frees}
 use Rattle.linkages.proofs.Members.{mem_none, mem_one, mem_at, dec_mem}
-use Rattle.drawings.proofs.Members.{same_kept, kept_twice}
+use Rattle.drawings.proofs.Members.{kept_twice}
 use Rattle.drawings.proofs.Said.{some_same, before_net, after_net, first_net, net_unbarred}
 use Rattle.drawings.proofs.Locals.{local_free}
 use Rattle.drawings.proofs.Changed.{freed_long, freed_inside, freed_outside, run_kept}
@@ -72,7 +73,7 @@ module _ (m : Meaning) (d e : List Record) (xs : List ℕ) (L : (c : ℕ) → Lo
 -- ---- cells that pass a test, in two drawings of one length
 
 pub cells_same : (d e : List Record) (p q : ℕ → Bool) → length e ≡ length d → ((k : ℕ) → p k ≡ q k) → cells_where e p ≡ cells_where d q
-cells_same d e p q long f = ap (λ n. filter p (range_with_len 0 n)) long ∙ same_kept p q (range_with_len 0 (length d)) (λ k i. f k)
+cells_same d e p q long f = ap (λ n. filter p (range_with_len 0 n)) long ∙ filter_agree p q f (range_with_len 0 (length d))
 
 pub cells_without : (d e : List Record) (p q : ℕ → Bool) (c : ℕ) → length e ≡ length d → ((k : ℕ) → p k ≡ (q k && not (eqb k c))) →
     cells_where e p ≡ without c (cells_where d q)

@@ -1,13 +1,9 @@
-use Rattle.std.proofs.Common.{◌≡◌, ◌∷◌, length, sym, refl, ap, ◌∙◌, arith}
+use Rattle.std.proofs.Common.{◌≡◌, ◌∷◌, length, sym, ap, ◌∙◌, arith}
 use Rattle.records.specs.Records.{after_of}
 use Rattle.drawings.specs.Nets.{net, last_of, Runs}
 use Rattle.drawings.specs.Changes.{freed}
-use Rattle.drawings.proofs.Follow.{net_stop}
 use Rattle.drawings.proofs.Changed.{free_step, run_last}
 use Rattle.drawings.proofs.nets.free_from.Goals as goal
-
-pub loop-next-init : goal.loop-next-init
-loop-next-init c = (c.requires, refl, refl)
 
 step : (c : goal.After-drawing-1) → Runs c.put.new.drawing c.in-Some.next (net c.put.new.drawing c.in-Some.next) ×
     (net c.loop-next.drawing c.loop-next.cell ≡ c.loop-next.cell ∷ net c.put.new.drawing c.in-Some.next)
@@ -28,13 +24,3 @@ loop-next-preserved c =
       run_last t x h.0 ∙ sym (ap (last_of x) h.1) ∙ c.loop-next.invariant.1,
       ap (freed (net e t)) c.put.ensures ∙ sym (ap (λ zs. freed zs d) h.1) ∙ c.loop-next.invariant.2,
     )
-
-pub returns : goal.returns
-returns c =
-    let d = c.loop-next.drawing in
-    let x = c.loop-next.cell in
-    let e = net_stop d x c.loop-next.invariant.0 (sym (ap after_of c.record_at.ensures) ∙ sym c.in_default.ensures) in
-    record {
-      last = sym (ap (last_of x) e) ∙ c.loop-next.invariant.1;
-      frees = c.put-2.ensures ∙ sym (ap (λ zs. freed zs d) e) ∙ c.loop-next.invariant.2;
-    }
