@@ -54,7 +54,7 @@ impl<'a> Visits<'a> {
     pub(crate) fn cut(work: &'a mut [u16], cells: usize) -> (Visits<'a>, &'a mut [u16])
         requires few { cells ≤ 4096 }
         requires work_long { length work.old ≡ 4 * cells }
-        ensures visits_long { Spans cells result.0 }
+        ensures visits_long { length result.0.entered ≡ cells }
         ensures spare_long { length result.1.now ≡ cells }
     {
         let (entered, rest) = work.split_at_mut(cells);
@@ -70,9 +70,10 @@ impl<'a> Visits<'a> {
         self.entered
     }
 
-    // Forgets every cell.
+    // Forgets every cell. Says as well what the type knows of the memory.
     fn clear(&mut self)
-        ensures { self.new ≡ notes (replicate (length self.old.entered) 0) self.old.queue self.old.from 0 }
+        ensures alike { Spans (length self.old.entered) self.old }
+        ensures empty { self.new ≡ notes (replicate (length self.old.entered) 0) self.old.queue self.old.from 0 }
     {
         zero(self.entered);
         self.count = 0;
@@ -132,7 +133,7 @@ pub fn search<B: Board>(
     start: u16,
 ) -> Option<u16>
     requires lawful { Lawful (B.meaning board.now) drawing.now }
-    requires long { Spans (B.meaning board.now).cells visits.old }
+    requires long { length visits.old.entered ≡ (B.meaning board.now).cells }
     requires inside { start < (B.meaning board.now).cells }
     requires unbarred { barred_at drawing.now start ≡ false }
     ensures { Ended (B.meaning board.now) drawing.now start visits.new result }

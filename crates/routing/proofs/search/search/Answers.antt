@@ -1,6 +1,6 @@
 use Rattle.std.proofs.Common.{◌≡◌, ◌+◌, ◌<◌, length, sym, ap, ◌∙◌, subst, arith}
 use Rattle.boards.specs.Meanings.{outlet_inside}
-use Rattle.routing.specs.Searches.{entered_also, Waiting, Scanning, Came}
+use Rattle.routing.specs.Searches.{Spans, entered_also, Waiting, Scanning, Came}
 use Rattle.routing.proofs.Noting.{room}
 use Rattle.routing.proofs.Scans.{begins, came_at_once, scan_begins, scan_more, scan_past, scan_came, scan_ends, wait_past, wait_ends}
 use Rattle.routing.proofs.search.search.Goals as goal
@@ -9,14 +9,14 @@ use Rattle.routing.proofs.search.search.Goals.{in-Some-outlet+else-is_open-2, in
 pub returns-then-is_open : goal.returns-then-is_open
 returns-then-is_open g c =
     came_at_once (g.B.Board.meaning c.args.board.now) (g.met.B.Board.bounded c.args.board.now) c.args.drawing.now c.requires.lawful c.args.start
-    c.args.visits.now c.enter.new.self c.requires.long c.requires.inside c.requires.unbarred
-    (c.enter.ensures ∙ ap (λ s. entered_also s 0 c.args.start) c.clear.ensures) (sym c.if-is_open.ensures)
+    c.args.visits.now c.enter.new.self (subst (λ n. Spans n c.args.visits.now) c.requires.long c.clear.ensures.alike) c.requires.inside c.requires.unbarred
+    (c.enter.ensures ∙ ap (λ s. entered_also s 0 c.args.start) c.clear.ensures.empty) (sym c.if-is_open.ensures)
 
 pub search-init : goal.search-init
 search-init g c =
     begins (g.B.Board.meaning c.args.board.now) (g.met.B.Board.bounded c.args.board.now) c.args.drawing.now c.requires.lawful c.args.start
-    c.args.visits.now c.enter.new.self c.requires.long c.requires.inside c.requires.unbarred
-    (c.enter.ensures ∙ ap (λ s. entered_also s 0 c.args.start) c.clear.ensures) (sym c.if-is_open.ensures)
+    c.args.visits.now c.enter.new.self (subst (λ n. Spans n c.args.visits.now) c.requires.long c.clear.ensures.alike) c.requires.inside c.requires.unbarred
+    (c.enter.ensures ∙ ap (λ s. entered_also s 0 c.args.start) c.clear.ensures.empty) (sym c.if-is_open.ensures)
 
 pub visit-requires-clause-inside : goal.visit-requires-clause-inside
 visit-requires-clause-inside g c =
