@@ -1,5 +1,5 @@
 -- A search from its first cell to its end.
-use Rattle.std.proofs.Common.{◌≡◌, ℕ, zero, suc, ◌+◌, ◌<◌, ◌≤◌, true, false, List, length, replicate, Some, None, sym, ap, ◌∙◌, subst, ⊎_elim, not-suc-le-zero, arith}
+use Rattle.std.proofs.Common.{◌≡◌, ℕ, zero, suc, ◌+◌, ◌<◌, ◌≤◌, true, false, List, length, replicate, Some, None, Option, sym, ap, ◌∙◌, subst, ⊎_elim, not-suc-le-zero, arith}
 use Rattle.std.proofs.lemmas.List.{get_or-set_same, length-replicate}
 use Rattle.std.proofs.lemmas.Bool.{both_ways, cases_lt, cases_eq}
 use Rattle.boards.specs.Meaning.{Meaning, Bounded, outlets_of, outlet_at, landing_at}
@@ -16,6 +16,10 @@ use Rattle.rewiring.specs.Trails.{exit_of, Enters, back, onward as goes-onward}
 use Rattle.routing.specs.Searches.{Notes, notes, was_entered, cell_at, from_at, open_at, entered_also, visited, Spans, Searching, Waiting, Scanning, Came}
 use Rattle.routing.proofs.Noting as note
 use Rattle.routing.proofs.Exits as exits
+
+-- the exit of the cell at place k, as the notes have it
+abbrev pub exit_read : List Record → Notes → ℕ → Option ℕ
+exit_read d s k = exit_of (record_at d (cell_at s k)) (cell_at s k)
 
 module _ (m : Meaning) (B : Bounded m) (d : List Record) (W : Lawful m d) (p : ℕ) where
   -- what can be entered, by the exit and its outlets
@@ -62,11 +66,13 @@ module _ (m : Meaning) (B : Bounded m) (d : List Record) (W : Lawful m d) (p : �
   -- ---- the outlets of an exit
 
   module _ (s : Notes) (k u : ℕ) where
-    pub scan_begins : Waiting m d p s k → k < s.count → exit_of (record_at d (cell_at s k)) (cell_at s k) ≡ Some u →
+    pub scan_begins : (now : Notes) → now ≡ s → Waiting m d p s k → k < now.count → Some u ≡ exit_read d now k →
         (u < length d) × Scanning m d p (visited d s k u) k u 0
-    scan_begins w i e =
+    scan_begins now same-notes w below read =
         let S = w.searching in
         let t = cell_at s k in
+        let i : k < s.count = subst (λ v. k < v.count) same-notes below in
+        let e : exit_read d s k ≡ Some u = ap (λ v. exit_read d v k) (sym same-notes) ∙ sym read in
         let l = exits.exit_inside m d W t u (note.cell_inside m d p s S k i) e in
         let same = note.visit_cell m d p s S k u k i in (
           l,
@@ -144,17 +150,18 @@ module _ (m : Meaning) (B : Bounded m) (d : List Record) (W : Lawful m d) (p : �
       inside = omega (arith, w.inside);
     }
 
-  pub wait_past : (s : Notes) (k : ℕ) → Waiting m d p s k → k < s.count → exit_of (record_at d (cell_at s k)) (cell_at s k) ≡ None →
-      Waiting m d p s (k + 1)
-  wait_past s k w i none = record {
-    searching = w.searching;
-    none_open = w.none_open;
-    closed = λ i h t e. ⊎_elim
-        (λ (x : i < k). w.closed i x t e)
-        (λ (x : k ≤ i). let y : i ≡ k = omega arith in absurd (enters_none (cell_at s k) t none (subst (λ v. Enters m d (cell_at s v) t) y e)))
-        (cases_lt i k);
-    inside = omega arith;
-  }
+  pub wait_past : (s now : Notes) (k : ℕ) → now ≡ s → Waiting m d p s k → k < now.count → None ≡ exit_read d now k → Waiting m d p s (k + 1)
+  wait_past s now k same w below read =
+      let i : k < s.count = subst (λ v. k < v.count) same below in
+      let none : exit_read d s k ≡ None = ap (λ v. exit_read d v k) (sym same) ∙ sym read in record {
+        searching = w.searching;
+        none_open = w.none_open;
+        closed = λ i h t e. ⊎_elim
+            (λ (x : i < k). w.closed i x t e)
+            (λ (x : k ≤ i). let y : i ≡ k = omega arith in absurd (enters_none (cell_at s k) t none (subst (λ v. Enters m d (cell_at s v) t) y e)))
+            (cases_lt i k);
+        inside = omega arith;
+      }
 
   -- ---- the end
 

@@ -19,6 +19,12 @@ pub record Notes : Type 0 where
 abbrev pub notes : List ℕ → List ℕ → List ℕ → ℕ → Notes
 notes entered queue from count = record { entered = entered; queue = queue; from = from; count = count }
 
+-- memory for the three, by its lengths: one number for each cell of a board
+pub record Alike (entered queue from : ℕ) : Type 0 where
+  pub few : entered ≤ 4096
+  pub queue_alike : queue ≡ entered
+  pub from_alike : from ≡ entered
+
 -- each of the three has room for n cells
 pub record Spans (n : ℕ) (s : Notes) : Type 0 where
   pub entered_long : length s.entered ≡ n

@@ -5,7 +5,6 @@ ghost use Rattle.linkages.specs.Lists.{Mem};
 ghost use Rattle.drawings.specs.Nets.{net_at, first_at, net, Runs};
 ghost use Rattle.drawings.specs.Changes.{freed, written};
 ghost use Rattle.drawings.specs.Lawful.{Lawful};
-ghost use Rattle.routing.specs.Searches.{Spans};
 ghost use Rattle.routing.specs.Outcomes.{Rerouted};
 
 use crate::route::route;
@@ -56,7 +55,7 @@ pub fn reroute<B: Board>(
     cell: u16,
 ) -> Result<u16, (u16, u16)>
     requires lawful { Lawful (B.meaning board.now) drawing.old }
-    requires visits_long { Spans (B.meaning board.now).cells visits.old }
+    requires visits_long { length visits.old.entered ≡ (B.meaning board.now).cells }
     requires spare_long { length spare.old ≡ (B.meaning board.now).cells }
     requires report_long { 2 * (B.meaning board.now).cells ≤ length report.old }
     requires wired { first_at drawing.old pad ≡ true }

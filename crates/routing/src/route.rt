@@ -3,7 +3,6 @@ ghost use Rattle.std.specs.Prelude.{◌≡◌, ◌*◌, ◌≤◌, true, false, 
 ghost use Rattle.boards.specs.Meaning.{pad_at};
 ghost use Rattle.drawings.specs.Nets.{first_at, barred_at};
 ghost use Rattle.drawings.specs.Lawful.{Lawful};
-ghost use Rattle.routing.specs.Searches.{Spans};
 ghost use Rattle.routing.specs.Outcomes.{Routed};
 
 use crate::fence::write_fence;
@@ -32,7 +31,7 @@ pub fn route<B: Board>(
     pad: u16,
 ) -> Result<u16, (u16, u16)>
     requires lawful { Lawful (B.meaning board.now) drawing.old }
-    requires visits_long { Spans (B.meaning board.now).cells visits.old }
+    requires visits_long { length visits.old.entered ≡ (B.meaning board.now).cells }
     requires spare_long { length spare.old ≡ (B.meaning board.now).cells }
     requires report_long { 2 * (B.meaning board.now).cells ≤ length report.old }
     requires is_pad { pad_at (B.meaning board.now) pad ≡ true }

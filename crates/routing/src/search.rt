@@ -8,7 +8,7 @@ ghost use Rattle.records.specs.Records.{record_at};
 ghost use Rattle.drawings.specs.Nets.{barred_at};
 ghost use Rattle.drawings.specs.Lawful.{Lawful};
 ghost use Rattle.rewiring.specs.Trails.{exit_of};
-ghost use Rattle.routing.specs.Searches.{notes, was_entered, open_at, entered_also, visited, Spans, Ended};
+ghost use Rattle.routing.specs.Searches.{notes, was_entered, open_at, entered_also, visited, Alike, Spans, Ended};
 
 use crate::route::zero;
 use boards::board::Board;
@@ -26,16 +26,20 @@ pub struct Visits<'a> {
 }
 
 impl<'a> Model for Visits<'a> {
-    ghost use Rattle.routing.specs.Searches.{Notes, notes};
+    ghost use Rattle.std.specs.Prelude.{length};
+    ghost use Rattle.routing.specs.Searches.{Notes, notes, Alike};
 
     ghost Value = { Notes };
 
     ghost view = { λ v. notes v.entered.now v.queue.now v.from.now v.count };
+
+    ghost invariant = { λ v. Alike (length v.entered.now) (length v.queue.now) (length v.from.now) };
 }
 
 impl<'a> Visits<'a> {
-    // Memory in three pieces, with no cell in the queue.
+    // Memory in three pieces of the same length, with no cell in the queue.
     pub fn new(entered: &'a mut [u16], queue: &'a mut [u16], from: &'a mut [u16]) -> Visits<'a>
+        requires { Alike (length entered.old) (length queue.old) (length from.old) }
         ensures { result ≡ notes entered.old queue.old from.old 0 }
     {
         Visits {
@@ -48,8 +52,9 @@ impl<'a> Visits<'a> {
 
     // Cuts work memory of four numbers for each cell: three are for the search, and the last part is to spare.
     pub(crate) fn cut(work: &'a mut [u16], cells: usize) -> (Visits<'a>, &'a mut [u16])
-        requires { length work.old ≡ 4 * cells }
-        ensures visits_long { Spans cells result.0 }
+        requires few { cells ≤ 4096 }
+        requires work_long { length work.old ≡ 4 * cells }
+        ensures visits_long { length result.0.entered ≡ cells }
         ensures spare_long { length result.1.now ≡ cells }
     {
         let (entered, rest) = work.split_at_mut(cells);
@@ -65,9 +70,10 @@ impl<'a> Visits<'a> {
         self.entered
     }
 
-    // Forgets every cell.
+    // Forgets every cell. Says as well what the type knows of the memory.
     fn clear(&mut self)
-        ensures { self.new ≡ notes (replicate (length self.old.entered) 0) self.old.queue self.old.from 0 }
+        ensures alike { Spans (length self.old.entered) self.old }
+        ensures empty { self.new ≡ notes (replicate (length self.old.entered) 0) self.old.queue self.old.from 0 }
     {
         zero(self.entered);
         self.count = 0;
@@ -76,9 +82,7 @@ impl<'a> Visits<'a> {
     // Notes a cell as entered from the cell at place `at`: it comes to the end of the queue.
     fn enter(&mut self, at: u16, cell: u16)
         requires inside { cell < length self.old.entered }
-        requires queue_room { self.old.count < length self.old.queue }
-        requires from_room { self.old.count < length self.old.from }
-        requires few { self.old.count < 4096 }
+        requires room { self.old.count < length self.old.entered }
         ensures { self.new ≡ entered_also self.old at cell }
     {
         self.entered[cell as usize] = 1;
@@ -90,9 +94,7 @@ impl<'a> Visits<'a> {
     // Enters a cell from the cell at place `at` of the queue, unless it is barred or was entered before.
     fn visit(&mut self, drawing: &[Record], at: u16, cell: u16)
         requires inside { cell < length self.old.entered }
-        requires alike { length self.old.from ≡ length self.old.queue }
-        requires few { length self.old.queue ≤ 4096 }
-        requires room { was_entered self.old.entered cell ≡ false → self.old.count < length self.old.queue }
+        requires room { was_entered self.old.entered cell ≡ false → self.old.count < length self.old.entered }
         ensures { self.new ≡ visited drawing.now self.old at cell }
     {
         if !record_at(drawing, cell).is_barred() && self.entered[cell as usize] != 1 {
@@ -131,7 +133,7 @@ pub fn search<B: Board>(
     start: u16,
 ) -> Option<u16>
     requires lawful { Lawful (B.meaning board.now) drawing.now }
-    requires long { Spans (B.meaning board.now).cells visits.old }
+    requires long { length visits.old.entered ≡ (B.meaning board.now).cells }
     requires inside { start < (B.meaning board.now).cells }
     requires unbarred { barred_at drawing.now start ≡ false }
     ensures { Ended (B.meaning board.now) drawing.now start visits.new result }

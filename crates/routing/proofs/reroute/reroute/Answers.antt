@@ -12,28 +12,28 @@ use Rattle.routing.specs.Outcomes.{FenceShown, WiredAlso, Routed, Rerouted}
 use Rattle.routing.proofs.Barring.{pad_runs, shut_in, shut_lawful, q_unwired, q_unbarred, barred_also, fence_barred, relaid_whole}
 use Rattle.routing.proofs.reroute.reroute.Goals as goal
 
-pub shut-count-requires : goal.shut-count-requires
-shut-count-requires g c = record {
-  runs = pad_runs (g.B.Board.meaning c.args.board.now) c.args.drawing.now c.args.pad c.args.cell c.requires.lawful c.requires.wired c.requires.along;
-  room = omega (arith, c.requires.spare_long, c.requires.lawful.one_each);
-}
+pub shut-count-requires-clause-runs : goal.shut-count-requires-clause-runs
+shut-count-requires-clause-runs g c =
+    pad_runs (g.B.Board.meaning c.args.board.now) c.args.drawing.now c.args.pad c.args.cell c.requires.lawful c.requires.wired c.requires.along
 
-pub route-found-requires : goal.route-found-requires
-route-found-requires g c =
+pub route-found-requires-clause-lawful : goal.route-found-requires-clause-lawful
+route-found-requires-clause-lawful g c =
     let m = g.B.Board.meaning c.args.board.now in
-    let d = c.args.drawing.now in
-    let q = c.args.pad in
-    let x = c.args.cell in
-    let e = sym c.shut-count.ensures.bars in
-    record {
-      lawful = subst (Lawful m) e (shut_lawful m d q x c.requires.lawful c.requires.wired c.requires.along);
-      visits_long = c.requires.visits_long;
-      spare_long = omega (arith, c.shut-count.auto.saved, c.requires.spare_long);
-      report_long = c.requires.report_long;
-      is_pad = (c.requires.lawful.local q).first_is_pad c.requires.wired;
-      unwired = subst (λ D. first_at D q ≡ false) e (q_unwired m d q x c.requires.lawful c.requires.wired c.requires.along c.requires.unwired);
-      unbarred = subst (λ D. barred_at D q ≡ false) e (q_unbarred m d q x c.requires.lawful c.requires.wired c.requires.along c.requires.unwired);
-    }
+    subst (Lawful m) (sym c.shut-count.ensures.bars)
+    (shut_lawful m c.args.drawing.now c.args.pad c.args.cell c.requires.lawful c.requires.wired c.requires.along)
+
+pub route-found-requires-clause-is_pad : goal.route-found-requires-clause-is_pad
+route-found-requires-clause-is_pad g c = (c.requires.lawful.local c.args.pad).first_is_pad c.requires.wired
+
+pub route-found-requires-clause-unwired : goal.route-found-requires-clause-unwired
+route-found-requires-clause-unwired g c =
+    ap (λ d. first_at d c.args.pad) c.shut-count.ensures.bars ∙
+    q_unwired (g.B.Board.meaning c.args.board.now) c.args.drawing.now c.args.pad c.args.cell c.requires.lawful c.requires.wired c.requires.along c.requires.unwired
+
+pub route-found-requires-clause-unbarred : goal.route-found-requires-clause-unbarred
+route-found-requires-clause-unbarred g c =
+    ap (λ d. barred_at d c.args.pad) c.shut-count.ensures.bars ∙
+    q_unbarred (g.B.Board.meaning c.args.board.now) c.args.drawing.now c.args.pad c.args.cell c.requires.lawful c.requires.wired c.requires.along c.requires.unwired
 
 -- the net laid again from where it was listed
 again : (d D E : List Record) (xs zs ss ss' : List ℕ) (n : ℕ) → laid xs D ≡ d → n ≡ length xs → zs ≡ written xs ss → ss' ≡ zs → E ≡ D → laid (take n ss') E ≡ d

@@ -1,9 +1,6 @@
-use Rattle.std.proofs.Common.{◌≡◌, ℕ, ◌+◌, ◌<◌, List, length, Option, sym, ap, ◌∙◌, subst, arith}
+use Rattle.std.proofs.Common.{◌≡◌, ◌+◌, ◌<◌, length, sym, ap, ◌∙◌, subst, arith}
 use Rattle.boards.specs.Meanings.{outlet_inside}
-use Rattle.records.specs.declared.record.Record.{Record}
-use Rattle.records.specs.Records.{record_at}
-use Rattle.rewiring.specs.Trails.{exit_of}
-use Rattle.routing.specs.Searches.{Notes, cell_at, entered_also, Waiting, Scanning, Came}
+use Rattle.routing.specs.Searches.{Spans, entered_also, Waiting, Scanning, Came}
 use Rattle.routing.proofs.Noting.{room}
 use Rattle.routing.proofs.Scans.{begins, came_at_once, scan_begins, scan_more, scan_past, scan_came, scan_ends, wait_past, wait_ends}
 use Rattle.routing.proofs.search.search.Goals as goal
@@ -12,44 +9,36 @@ use Rattle.routing.proofs.search.search.Goals.{in-Some-outlet+else-is_open-2, in
 pub returns-then-is_open : goal.returns-then-is_open
 returns-then-is_open g c =
     came_at_once (g.B.Board.meaning c.args.board.now) (g.met.B.Board.bounded c.args.board.now) c.args.drawing.now c.requires.lawful c.args.start
-    c.args.visits.now c.enter.new.self c.requires.long c.requires.inside c.requires.unbarred
-    (c.enter.ensures ∙ ap (λ s. entered_also s 0 c.args.start) c.clear.ensures) (sym c.if-is_open.ensures)
+    c.args.visits.now c.enter.new.self (subst (λ n. Spans n c.args.visits.now) c.requires.long c.clear.ensures.alike) c.requires.inside c.requires.unbarred
+    (c.enter.ensures ∙ ap (λ s. entered_also s 0 c.args.start) c.clear.ensures.empty) (sym c.if-is_open.ensures)
 
 pub search-init : goal.search-init
 search-init g c =
     begins (g.B.Board.meaning c.args.board.now) (g.met.B.Board.bounded c.args.board.now) c.args.drawing.now c.requires.lawful c.args.start
-    c.args.visits.now c.enter.new.self c.requires.long c.requires.inside c.requires.unbarred
-    (c.enter.ensures ∙ ap (λ s. entered_also s 0 c.args.start) c.clear.ensures) (sym c.if-is_open.ensures)
+    c.args.visits.now c.enter.new.self (subst (λ n. Spans n c.args.visits.now) c.requires.long c.clear.ensures.alike) c.requires.inside c.requires.unbarred
+    (c.enter.ensures ∙ ap (λ s. entered_also s 0 c.args.start) c.clear.ensures.empty) (sym c.if-is_open.ensures)
 
--- the exit of a cell of the queue as it is read
-exit_read : (d : List Record) (s now : Notes) (k : ℕ) (exit : Option ℕ) → now ≡ s → exit ≡ exit_of (record_at d (cell_at now k)) (cell_at now k) →
-    exit_of (record_at d (cell_at s k)) (cell_at s k) ≡ exit
-exit_read d s now k exit same e = ap (λ t. exit_of (record_at d (cell_at t k)) (cell_at t k)) (sym same) ∙ sym e
+pub visit-requires-clause-inside : goal.visit-requires-clause-inside
+visit-requires-clause-inside g c =
+    let l = scan_begins (g.B.Board.meaning c.args.board.now) (g.met.B.Board.bounded c.args.board.now) c.args.drawing.now c.requires.lawful c.args.start
+    c.search.visits c.search.at c.in-Some.exit _ c.visits.view_is c.search.invariant c.if-at-visits.false c.in-Some.ensures in
+    omega (arith, l.0, c.search.invariant.searching.entered_long)
 
-pub visit-requires : goal.visit-requires
-visit-requires g c =
+pub visit-requires-clause-room : goal.visit-requires-clause-room
+visit-requires-clause-room g c e =
     let m = g.B.Board.meaning c.args.board.now in
-    let d = c.args.drawing.now in
-    let s = c.search.visits in
     let S = c.search.invariant.searching in
-    let B = g.met.B.Board.bounded c.args.board.now in
-    let l = (scan_begins m B d c.requires.lawful c.args.start s c.search.at c.in-Some.exit c.search.invariant
-    (omega (arith, ap (λ t. t.count) c.visits.view_is)) (exit_read d s _ c.search.at _ c.visits.view_is c.in-Some.ensures)).0 in
-    record {
-      inside = omega (arith, S.entered_long);
-      alike = omega (arith, S.from_long, S.queue_long);
-      few = omega (arith, S.queue_long, B.few_cells, c.requires.lawful.one_each);
-      room = λ e. omega (arith, S.queue_long, room m d c.args.start s S c.in-Some.exit l e);
-    }
+    let l = scan_begins m (g.met.B.Board.bounded c.args.board.now) c.args.drawing.now c.requires.lawful c.args.start
+    c.search.visits c.search.at c.in-Some.exit _ c.visits.view_is c.search.invariant c.if-at-visits.false c.in-Some.ensures in
+    omega (arith, S.queue_long, room m c.args.drawing.now c.args.start c.search.visits S c.in-Some.exit l.0 e)
 
 pub loop-j-init : goal.loop-j-init
 loop-j-init g c =
     let m = g.B.Board.meaning c.args.board.now in
     let d = c.args.drawing.now in
-    let s = c.search.visits in
-    subst (λ t. Scanning m d c.args.start t c.search.at c.in-Some.exit 0) (sym c.visit.ensures)
-    (scan_begins m (g.met.B.Board.bounded c.args.board.now) d c.requires.lawful c.args.start s c.search.at c.in-Some.exit c.search.invariant
-    (omega (arith, ap (λ t. t.count) c.visits.view_is)) (exit_read d s _ c.search.at _ c.visits.view_is c.in-Some.ensures)).1
+    let l = scan_begins m (g.met.B.Board.bounded c.args.board.now) d c.requires.lawful c.args.start
+    c.search.visits c.search.at c.in-Some.exit _ c.visits.view_is c.search.invariant c.if-at-visits.false c.in-Some.ensures in
+    subst (λ t. Scanning m d c.args.start t c.search.at c.in-Some.exit 0) (sym c.visit.ensures) l.1
 
 pub visit-requires-in-Some-outlet-clause-room : goal.visit-requires-in-Some-outlet-clause-room
 visit-requires-in-Some-outlet-clause-room g c =
@@ -95,8 +84,7 @@ search-preserved g c =
           (subst (λ v. Scanning m d p w.loop-j.visits k w.in-Some.exit v) all w.loop-j.invariant))
       | in_default w ↦
           subst (λ t. Waiting m d p t (k + 1)) (sym w.visits-is)
-          (wait_past m B d c.requires.lawful p c.search.visits k c.search.invariant (omega (arith, ap (λ t. t.count) c.visits.view_is))
-          (exit_read d c.search.visits _ k _ c.visits.view_is w.in_default.ensures))
+          (wait_past m B d c.requires.lawful p c.search.visits _ k c.visits.view_is c.search.invariant c.if-at-visits.false w.in_default.ensures)
     ]
 
 pub returns-then-at-visits : goal.returns-then-at-visits
