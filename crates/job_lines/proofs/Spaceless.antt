@@ -1,6 +1,5 @@
 -- No space stands in a number, in a name or in the first word of a line.
 use Rattle.std.proofs.Common.{◌≡◌, ℕ, List, decimal, ⊎_elim, arith, rules}
-use Rattle.std.specs.Str.{IsUtf8}
 use Rattle.std.proofs.lemmas.Fmt.{digits_decimal}
 use Rattle.std.proofs.ByRecursion.{All-from_get_or, All-weaker}
 use Rattle.std.proofs.lemmas.Str.Parse.{digit_at}
@@ -29,16 +28,3 @@ keyword_lacks Lift = search rules
 keyword_lacks Bar = search rules
 keyword_lacks Clear = search rules
 keyword_lacks Show = search rules
-
--- the first words are UTF-8
-pub keyword_utf8 : (v : Verb) → IsUtf8 (keyword v)
-keyword_utf8 Field = search rules
-keyword_utf8 Escape = search rules
-keyword_utf8 Pad = search rules
-keyword_utf8 Land = search rules
-keyword_utf8 Keep = search rules
-keyword_utf8 Place = search rules
-keyword_utf8 Lift = search rules
-keyword_utf8 Bar = search rules
-keyword_utf8 Clear = search rules
-keyword_utf8 Show = search rules

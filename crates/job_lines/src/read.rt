@@ -13,7 +13,7 @@ pub fn read_line<'a>(bytes: &'a [u8]) -> Option<Line<'a>>
     ensures { ReadsLine bytes.now result }
 {
     let (word, rest) = cut(bytes, b' ')?;
-    let verb = str::from_utf8(word).ok()?.parse::<Verb>().ok()?;
+    let verb = Verb::try_from(word).ok()?;
     read_rest(verb, rest)
 }
 

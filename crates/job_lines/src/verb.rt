@@ -4,7 +4,6 @@ ghost use Rattle.job_lines.specs.Words.{Reads};
 ghost use Rattle.job_lines.specs.Verbs.{AnyVerb, keyword};
 
 use crate::faults::LineFault;
-use std::str::FromStr;
 
 #[derive(Clone, Copy)]
 pub(crate) enum Verb {
@@ -21,23 +20,23 @@ pub(crate) enum Verb {
 }
 
 // A line that begins with another word has none of the ten forms.
-impl FromStr for Verb {
-    type Err = LineFault;
+impl TryFrom<&[u8]> for Verb {
+    type Error = LineFault;
 
-    ghost from_str_gives = { λ word r. Reads AnyVerb keyword word (result_ok r) };
+    ghost try_from_gives = { λ word r. Reads AnyVerb keyword word.now (result_ok r) };
 
-    fn from_str(word: &str) -> Result<Verb, LineFault> {
+    fn try_from(word: &[u8]) -> Result<Verb, LineFault> {
         match word {
-            "field" => Ok(Verb::Field),
-            "escape" => Ok(Verb::Escape),
-            "pad" => Ok(Verb::Pad),
-            "land" => Ok(Verb::Land),
-            "keep" => Ok(Verb::Keep),
-            "place" => Ok(Verb::Place),
-            "lift" => Ok(Verb::Lift),
-            "bar" => Ok(Verb::Bar),
-            "clear" => Ok(Verb::Clear),
-            "show" => Ok(Verb::Show),
+            b"field" => Ok(Verb::Field),
+            b"escape" => Ok(Verb::Escape),
+            b"pad" => Ok(Verb::Pad),
+            b"land" => Ok(Verb::Land),
+            b"keep" => Ok(Verb::Keep),
+            b"place" => Ok(Verb::Place),
+            b"lift" => Ok(Verb::Lift),
+            b"bar" => Ok(Verb::Bar),
+            b"clear" => Ok(Verb::Clear),
+            b"show" => Ok(Verb::Show),
             _ => Err(LineFault::NoForm),
         }
     }

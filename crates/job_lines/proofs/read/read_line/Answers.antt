@@ -1,8 +1,6 @@
 use Rattle.std.proofs.Common.{◌≡◌, ◌∙◌, rules}
-use Rattle.std.specs.Str.{IsUtf8}
 use Rattle.job_lines.proofs.Cuts.{no_cut}
 use Rattle.job_lines.proofs.Forms.{spelled_is, line_read, line_unread}
-use Rattle.job_lines.proofs.Spaceless.{keyword_utf8}
 use Rattle.job_lines.specs.Verbs.{keyword}
 use Rattle.job_lines.specs.declared.verb.Verb.{Verb}
 use Rattle.job_lines.proofs.read.read_line.Goals as goal
@@ -11,11 +9,6 @@ pub returns-in_err-word : goal.returns-in_err-word
 returns-in_err-word c =
     rw c.from_residual.ensures (λ f fit e. no_cut 32 _ _ _ c.in_err-word.ensures (e ∙ spelled_is f))
 
-pub returns-in_err-ok : goal.returns-in_err-ok
-returns-in_err-ok c =
-    let bad : IsUtf8 c.in_ok-word.word.now → ⊥ = search rules in
-    rw c.from_residual-in_err-ok.ensures (line_unread _ _ _ c.in_ok-word.ensures (λ v e. bad (rw e (keyword_utf8 v))))
-
 pub returns-in_err-verb : goal.returns-in_err-verb
 returns-in_err-verb c =
     let unknown : (v : Verb) → c.in_ok-word.word.now ≡ keyword v → ⊥ = search rules in
@@ -23,6 +16,5 @@ returns-in_err-verb c =
 
 pub returns : goal.returns
 returns c =
-    let same : c.in_ok-ok.field-0.now ≡ c.in_ok-word.word.now = search rules in
-    let is : c.in_ok-ok.field-0.now ≡ keyword c.in_ok-verb.verb = search rules in
-    line_read _ _ _ _ _ c.in_ok-word.ensures (rw same at is) c.read_rest.ensures
+    let is : c.in_ok-word.word.now ≡ keyword c.in_ok-verb.verb = search rules in
+    line_read _ _ _ _ _ c.in_ok-word.ensures is c.read_rest.ensures
