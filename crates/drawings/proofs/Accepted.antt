@@ -39,10 +39,10 @@ made m e long all = record {
 -- ---- conditions that are looked at one after another
 
 -- where those with the lower numbers do not hold, the first of the others is the first
-first_past : (P C : ℕ → Type 0) (n : ℕ) → ((k : ℕ) → P k → ⊥) → First C n → First (λ k. P k ⊎ C k) n
+pub first_past : (P C : ℕ → Type 0) (n : ℕ) → ((k : ℕ) → P k → ⊥) → First C n → First (λ k. P k ⊎ C k) n
 first_past P C n never h = (inr h.0, λ k l e. elim e [ inl p ↦ never k p | inr q ↦ h.1 k l q ])
 
-none_past : (P C : ℕ → Type 0) → ((k : ℕ) → P k → ⊥) → NoneHolds C → NoneHolds (λ k. P k ⊎ C k)
+pub none_past : (P C : ℕ → Type 0) → ((k : ℕ) → P k → ⊥) → NoneHolds C → NoneHolds (λ k. P k ⊎ C k)
 none_past P C never h k e = elim e [ inl p ↦ never k p | inr q ↦ h k q ]
 
 pub lift_first : (m : Meaning) (d : List Record) (c n : ℕ) → length d ≡ m.cells → First (PadRefused m d c) n → First (LiftRefused m d c) n

@@ -5,7 +5,7 @@
 ghost use Rattle.std.specs.Prelude.{◌≡◌, ◌+◌, ◌<◌, ◌≤◌, [], ◌∷◌, ◌++◌, length, take, drop, OnErr, slice_index_or};
 ghost use Rattle.boards.specs.Places.{nowhere};
 ghost use Rattle.boards.specs.Refusals.{Answer};
-ghost use Rattle.drawings.specs.Nets.{net, Runs};
+ghost use Rattle.drawings.specs.Nets.{net};
 ghost use Rattle.records.specs.Numbers.{number_of};
 ghost use Rattle.layouts.specs.Readings.{right_below, lies_on, points_on, places_of, reading, points_written, WireGiven, ReadRefused};
 ghost use Rattle.layouts.specs.Theorems.{FieldLayouts};
@@ -13,8 +13,9 @@ ghost use Rattle.layouts.specs.Theorems.{FieldLayouts};
 use crate::wires::{Layer, Point};
 use boards::board::Board;
 use boards::place::{Place, PlacedBoard};
-use drawings::lawful::is_lawful;
-use records::record::{Record, record_at};
+use drawings::checks::{check_size, check_wired_pad};
+use drawings::nets::follow;
+use records::record::Record;
 use records::refusal::Refusal;
 
 const NOWHERE: Place = Place {
@@ -40,20 +41,22 @@ fn is_right_below<B: PlacedBoard>(board: &B, upper: u16, lower: u16) -> bool
     lower.layer as u32 == upper.layer as u32 + 1 && Point::from(lower) == Point::from(upper)
 }
 
-// The layer on which the net of a pad lies. That the net comes to an end is a `requires` here and below, and no ghost field of a
-// struct with the pad: such a field holds propositions alone, and `Runs` is a relation given by its rules.
+// The layer on which the net of a pad lies.
 fn net_layer<B: PlacedBoard>(board: &B, drawing: &[Record], pad: u16) -> Layer
-    requires { Runs drawing.now pad (net drawing.now pad) }
     ensures { result ≡ lies_on (places_of (B.PlacedBoard.places board.now) (net drawing.now pad)) }
 {
-    match record_at(drawing, pad).after() {
-        Some(second) if is_right_below(board, pad, second) => Layer::Bottom,
-        _ => Layer::Top,
+    if follow(drawing, pad)
+        .nth(1)
+        .is_some_and(|second| is_right_below(board, pad, second))
+    {
+        Layer::Bottom
+    } else {
+        Layer::Top
     }
 }
 
 // Writes the points of a net's cells on a layer to the front of a list, and gives back how many they are: the caller lends the
-// list, so the count stands beside it. A loop follows the net, since of an iterator of `successors` it is not known that it ends.
+// list, so the count stands beside it.
 fn list_points<B: PlacedBoard>(
     board: &B,
     drawing: &[Record],
@@ -61,20 +64,17 @@ fn list_points<B: PlacedBoard>(
     layer: Layer,
     points: &mut [Point],
 ) -> usize
-    requires runs { Runs drawing.now pad (net drawing.now pad) }
-    requires room { length (net drawing.now pad) ≤ length points.old }
+    requires { length (net drawing.now pad) ≤ length points.old }
     ensures count { result ≡ length (points_on layer (places_of (B.PlacedBoard.places board.now) (net drawing.now pad))) }
     ensures writes { points.new ≡ points_written (points_on layer (places_of (B.PlacedBoard.places board.now) (net drawing.now pad))) points.old }
 {
     let mut count = 0;
-    let mut next = Some(pad);
-    while let Some(cell) = next {
+    for cell in follow(drawing, pad) {
         let place = place_or_nowhere(board, cell);
         if place.layer == layer.number() {
             points[count] = place.into();
             count += 1;
         }
-        next = record_at(drawing, cell).after();
     }
     count
 }
@@ -95,24 +95,11 @@ pub fn read_wire<B: PlacedBoard>(
     ensures kept { OnErr result (points.new ≡ points.old) }
     ensures layouts { FieldLayouts }
 {
-    if drawing.len() != board.cells() as usize {
-        return Err(Refusal::WrongDrawing);
-    }
+    check_size(board, drawing)?;
     if points.len() < board.cells() as usize {
         return Err(Refusal::ShortReport);
     }
-    if !is_lawful(board, drawing) {
-        return Err(Refusal::NotLawful);
-    }
-    if pad >= board.cells() {
-        return Err(Refusal::NoSuchCell);
-    }
-    if !board.is_pad(pad) {
-        return Err(Refusal::NotPad);
-    }
-    if !record_at(drawing, pad).is_first() {
-        return Err(Refusal::NotWired);
-    }
+    check_wired_pad(board, drawing, pad)?;
     let layer = net_layer(board, drawing, pad);
     let count = list_points(board, drawing, pad, layer, points);
     Ok((layer, count as u16))

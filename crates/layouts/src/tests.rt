@@ -12,28 +12,6 @@ const FREE: Record = Record::Free;
 
 const BAR: Record = Record::Barred;
 
-// A net cell with none before it, one with both, and one with none after it.
-fn first(after: u16) -> Record {
-    Record::Net {
-        before: None,
-        after: Some(after),
-    }
-}
-
-fn on(before: u16, after: u16) -> Record {
-    Record::Net {
-        before: Some(before),
-        after: Some(after),
-    }
-}
-
-fn last(before: u16) -> Record {
-    Record::Net {
-        before: Some(before),
-        after: None,
-    }
-}
-
 // What a point is before any is written.
 const UNWRITTEN: Point = Point { row: 0, column: 99 };
 
@@ -66,7 +44,14 @@ fn past_a_landing(rt: HostRuntime) -> Result<(), Fail> {
     assert!(rt;
         reads(
             &field,
-            &[first(3), FREE, FREE, on(0, 4), last(3), FREE],
+            &[
+                Record::first(3),
+                FREE,
+                FREE,
+                Record::between(0, 4),
+                Record::last(3),
+                FREE
+            ],
             0,
             Layer::Bottom,
             &[0, 1],
@@ -76,7 +61,14 @@ fn past_a_landing(rt: HostRuntime) -> Result<(), Fail> {
     assert!(rt;
         reads(
             &field,
-            &[first(1), on(0, 2), on(1, 5), FREE, BAR, last(2)],
+            &[
+                Record::first(1),
+                Record::between(0, 2),
+                Record::between(1, 5),
+                FREE,
+                BAR,
+                Record::last(2)
+            ],
             0,
             Layer::Top,
             &[0, 1, 2],
@@ -90,7 +82,15 @@ fn past_a_landing(rt: HostRuntime) -> Result<(), Fail> {
 #[test]
 fn one_point(rt: HostRuntime) -> Result<(), Fail> {
     let field = Field::new(1, 1, [3u8].to_vec(rt.alloc())?);
-    assert!(rt; reads(&field, &[first(1), last(0)], 0, Layer::Bottom, &[0]));
+    assert!(rt;
+        reads(
+            &field,
+            &[Record::first(1), Record::last(0)],
+            0,
+            Layer::Bottom,
+            &[0]
+        )
+    );
     Ok(())
 }
 
@@ -98,14 +98,28 @@ fn one_point(rt: HostRuntime) -> Result<(), Fail> {
 #[test]
 fn refused(rt: HostRuntime) -> Result<(), Fail> {
     let field = Field::new(1, 3, [1u8, 1, 2].to_vec(rt.alloc())?);
-    let drawing = [FREE, first(2), on(1, 5), FREE, FREE, last(2)];
+    let drawing = [
+        FREE,
+        Record::first(2),
+        Record::between(1, 5),
+        FREE,
+        FREE,
+        Record::last(2),
+    ];
     assert_eq!(rt; refusal(&field, &drawing, 1, 6), None);
     assert_eq!(rt; refusal(&field, &[FREE], 1, 6), Some(1));
     assert_eq!(rt; refusal(&field, &drawing, 1, 5), Some(3));
     assert_eq!(rt;
         refusal(
             &field,
-            &[first(1), on(0, 4), FREE, FREE, on(1, 5), last(4)],
+            &[
+                Record::first(1),
+                Record::between(0, 4),
+                FREE,
+                FREE,
+                Record::between(1, 5),
+                Record::last(4)
+            ],
             0,
             6,
         ),

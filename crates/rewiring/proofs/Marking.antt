@@ -1,22 +1,16 @@
 -- Marks written to a list of cells.
-use Rattle.std.proofs.Common.{◌≡◌, ℕ, ◌+◌, ◌<◌, ◌≤◌, true, false, ◌⊎◌, List, [], ◌∷◌, length, get_or, set, Some, None, Option, IfSome, sym, refl, ap, ◌∙◌, subst, inl, inr, ⊎_elim, arith}
+use Rattle.std.proofs.Common.{◌≡◌, ℕ, ◌+◌, ◌<◌, ◌≤◌, true, false, ◌⊎◌, List, [], ◌∷◌, length, get_or, set, sym, refl, ap, ◌∙◌, subst, inl, inr, ⊎_elim, arith}
 use Rattle.std.proofs.lemmas.List.{get_or-set_same, get_or-set_other, length-set}
 use Rattle.std.proofs.lemmas.Bool.{cases_eq}
 use Rattle.boards.specs.Meaning.{Meaning}
 use Rattle.linkages.specs.Lists.{Mem, here, there}
 use Rattle.linkages.proofs.Members.{mem_none}
 use Rattle.records.specs.declared.record.Record.{Record}
-use Rattle.drawings.specs.Nets.{after_at, first_at, onward, net, Runs}
+use Rattle.drawings.specs.Nets.{first_at, net}
 use Rattle.drawings.specs.Lawful.{Local, Reached}
 use Rattle.drawings.proofs.Said.{first_net, net_inside}
-use Rattle.drawings.proofs.Follow.{run_net, net_step, net_stop, net_runs, net_reached, reached_net}
+use Rattle.drawings.proofs.Follow.{run_net, net_runs, net_reached, reached_net}
 use Rattle.rewiring.specs.Marks.{marked, MarksReached}
-
--- one turn along a net: what is left of it is its cell and what is left from the cell after that
-pub net_turn : (d : List Record) (c : ℕ) (o : Option ℕ) → Runs d c (net d c) → after_at d c ≡ o →
-    IfSome o (λ t. Runs d t (net d t)) × (net d c ≡ c ∷ onward d o (length d))
-net_turn d c None r e = (tt, net_stop d c r e)
-net_turn d c (Some t) r e = net_step d c t r e
 
 pub marked_long : (xs marks : List ℕ) → length (marked xs marks) ≡ length marks
 marked_long [] marks = refl

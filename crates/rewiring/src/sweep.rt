@@ -1,11 +1,12 @@
 // Freeing the net cells that no net reaches from its first cell.
 ghost use Rattle.std.specs.Prelude.{◌≡◌, ℕ, ◌≤◌, length, ◌==◌, slice_index, slice_set};
-ghost use Rattle.drawings.specs.Nets.{net, Runs};
+ghost use Rattle.drawings.specs.Nets.{net};
 ghost use Rattle.drawings.specs.Lawful.{Local};
 ghost use Rattle.drawings.specs.Outcomes.{Frees};
 ghost use Rattle.rewiring.specs.Marks.{marked, MarksReached, is_stray, strays, Swept};
 
 use boards::board::Board;
+use drawings::nets::follow;
 use records::record::{Record, record_at};
 
 // Marks a cell; past the last mark nothing is written. The marks are numbers, 1 for a mark and 0 for none, since they lie in the
@@ -26,15 +27,12 @@ fn is_marked(marks: &[u16], cell: usize) -> bool
     marks.get(cell) == Some(&1)
 }
 
-// Marks the cells from a cell to the end of its net. A loop, since of an iterator of `successors` it is not known that it ends.
+// Marks the cells met by going on from a cell.
 fn mark_net(drawing: &[Record], first: u16, marks: &mut [u16])
-    requires { Runs drawing.now first (net drawing.now first) }
     ensures { marks.new ≡ marked (net drawing.now first) marks.old }
 {
-    let mut next = Some(first);
-    while let Some(cell) = next {
+    for cell in follow(drawing, first) {
         mark(marks, cell);
-        next = record_at(drawing, cell).after();
     }
 }
 

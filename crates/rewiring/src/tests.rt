@@ -2,36 +2,14 @@
 use crate::moves::follow_back;
 use records::record::Record;
 
-// A net cell with these cells before it and after it.
-fn between(before: u16, after: u16) -> Record {
-    Record::Net {
-        before: Some(before),
-        after: Some(after),
-    }
-}
-
-fn first(after: u16) -> Record {
-    Record::Net {
-        before: None,
-        after: Some(after),
-    }
-}
-
-fn last(before: u16) -> Record {
-    Record::Net {
-        before: Some(before),
-        after: None,
-    }
-}
-
 // The net 0, 1, 2, 3 gives up its end to the pad 4, which comes in at 2, and goes from 0 to the landing 5; 1 is left free.
 #[test]
 fn wire_moves(rt: HostRuntime) {
     let mut drawing = [
-        first(1),
-        between(0, 2),
-        between(1, 3),
-        last(2),
+        Record::first(1),
+        Record::between(0, 2),
+        Record::between(1, 3),
+        Record::last(2),
         Record::Free,
         Record::Free,
     ];
@@ -39,12 +17,12 @@ fn wire_moves(rt: HostRuntime) {
     assert_eq!(rt;
         drawing,
         [
-            first(5),
+            Record::first(5),
             Record::Free,
-            between(4, 3),
-            last(2),
-            first(2),
-            last(0),
+            Record::between(4, 3),
+            Record::last(2),
+            Record::first(2),
+            Record::last(0),
         ]
     );
 }
@@ -53,11 +31,11 @@ fn wire_moves(rt: HostRuntime) {
 #[test]
 fn ring_is_left(rt: HostRuntime) {
     let mut drawing = [
-        first(1),
-        between(0, 2),
-        between(1, 3),
-        between(2, 4),
-        last(3),
+        Record::first(1),
+        Record::between(0, 2),
+        Record::between(1, 3),
+        Record::between(2, 4),
+        Record::last(3),
         Record::Free,
         Record::Free,
     ];
@@ -65,13 +43,13 @@ fn ring_is_left(rt: HostRuntime) {
     assert_eq!(rt;
         drawing,
         [
-            first(6),
-            between(2, 2),
-            between(1, 1),
-            between(5, 4),
-            last(3),
-            first(3),
-            last(0),
+            Record::first(6),
+            Record::between(2, 2),
+            Record::between(1, 1),
+            Record::between(5, 4),
+            Record::last(3),
+            Record::first(3),
+            Record::last(0),
         ]
     );
 }

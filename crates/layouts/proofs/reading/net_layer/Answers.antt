@@ -1,10 +1,13 @@
-use Rattle.std.proofs.Common.{sym, ap, ◌∙◌, refl}
-use Rattle.records.specs.Records.{after_of}
+use Rattle.std.proofs.Common.{rules}
 use Rattle.layouts.proofs.Readers.{layer_seen}
 use Rattle.layouts.proofs.reading.net_layer.Goals as goal
 
-pub returns-in-Some : goal.returns-in-Some
-returns-in-Some g c =
-    let e = layer_seen (g.B.PlacedBoard.places c.args.board.now) c.args.drawing.now c.args.pad c.in-Some.second c.requires
-    (sym (ap after_of c.record_at.ensures) ∙ sym c.after.ensures ∙ c.in-Some.is) in
-    rw (e, ← c.is_right_below.ensures, c.if-is_right_below.true) refl
+pub returns-then-is_some_and : goal.returns-then-is_some_and
+returns-then-is_some_and g c =
+    layer_seen (g.B.PlacedBoard.places c.args.board.now) c.args.drawing.now c.args.pad c.nth.result c.nth.new.self c.follow.ensures.cells c.nth.ensures.ran
+    c.if-is_some_and.true c.is_some_and.ensures (λ t q. search rules)
+
+pub returns-else-is_some_and : goal.returns-else-is_some_and
+returns-else-is_some_and g c =
+    layer_seen (g.B.PlacedBoard.places c.args.board.now) c.args.drawing.now c.args.pad c.nth.result c.nth.new.self c.follow.ensures.cells c.nth.ensures.ran
+    c.if-is_some_and.false c.is_some_and.ensures (λ t q. search rules)

@@ -1,14 +1,8 @@
 use Rattle.std.proofs.Common.{◌≡◌, ℕ, ◌+◌, List, length, sym, ap, ◌∙◌, subst, arith}
 use Rattle.records.specs.Records.{is_first}
-use Rattle.drawings.proofs.Follow.{net_runs}
 use Rattle.rewiring.proofs.Marking.{MarkedBelow, mark_first, mark_other, all_marked}
 use Rattle.rewiring.proofs.sweep.mark_nets.Goals as goal
 use Rattle.rewiring.proofs.sweep.mark_nets.Goals.{then-is_first, else-is_first}
-
-pub mark_net-requires : goal.mark_net-requires
-mark_net-requires g c =
-    net_runs (g.B.Board.meaning c.args.board.now) c.args.drawing.now c.requires.local c.loop-cell.cell
-    (sym (ap is_first c.record_at.ensures) ∙ sym c.if-is_first.ensures)
 
 pub loop-cell-preserved : goal.loop-cell-preserved
 loop-cell-preserved g c =
