@@ -1,5 +1,6 @@
 -- Closing one number after another, as far as they are cells.
 use Rattle.std.proofs.Common.{◌≡◌, ℕ, ◌+◌, ◌<◌, ◌≤◌, Bool, true, false, cond, ◌||◌, eqb, ltb, List, [], ◌∷◌, ◌++◌, length, get_or, take, Ok, Err, filter, Result, sym, refl, ap, ◌∙◌, ⊎_elim, append-nil, take_all}
+use Rattle.std.proofs.Math.Bool.{or_assoc}
 use Rattle.std.proofs.lemmas.List.Elements.{filter_more}
 use Rattle.std.proofs.lemmas.Bool.{cases_lt, lt-ltb, le-ltb}
 use Rattle.boards.specs.declared.refusal.BoardRefusal.{BoardRefusal}
@@ -8,10 +9,6 @@ use Rattle.boards.specs.Numbers.{number_of}
 use Rattle.boards.specs.Refusals.{Answer}
 use Rattle.boards.specs.KeepOuts.{is_closed, CloseFault, Closes}
 use Rattle.job_boards.specs.Plans.{among}
-
-or_assoc : (x y z : Bool) → ((x || y) || z) ≡ (x || (y || z))
-or_assoc true y z = refl
-or_assoc false y z = refl
 
 or_swap : (x y : Bool) → (x || y) ≡ (y || (x || false))
 or_swap true true = refl

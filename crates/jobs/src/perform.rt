@@ -105,6 +105,7 @@ fn perform_plan(
         kept,
     } = plan;
     let Header { rows, columns, .. } = header;
+    // The two boards are of two types, so each arm has a call of its own.
     match header.kind {
         MapKind::FieldMap => {
             let board = Field::new(rows, columns, map);

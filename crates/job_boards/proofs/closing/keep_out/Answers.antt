@@ -1,9 +1,6 @@
-use Rattle.std.proofs.Common.{refl, ap, ◌∙◌}
+use Rattle.std.proofs.Common.{ap, ◌∙◌}
 use Rattle.job_boards.proofs.Closings.{closed_more, closed_all}
 use Rattle.job_boards.proofs.closing.keep_out.Goals as goal
-
-pub loop-cell-init : goal.loop-cell-init
-loop-cell-init g c = (refl, c.new-over.ensures.nothing)
 
 pub loop-cell-preserved : goal.loop-cell-preserved
 loop-cell-preserved g c = (
