@@ -23,6 +23,7 @@ pub fn count_marked<B: Board>(board: &B, mark: Mark) -> u16
 fn is_marked<B: Board>(board: &B, cell: u16, mark: Mark) -> bool
     ensures { result ≡ mark_at (B.meaning board.now) mark cell }
 {
+    // A `match`, since callers name a mark; a closure for the question would be written out at every call.
     match mark {
         Mark::Pad => board.is_pad(cell),
         Mark::Landing => board.is_landing(cell),

@@ -72,6 +72,7 @@ impl<'a, G: Grid> Spot<'a, G> {
     pub(crate) fn at(map: &'a Map, place: Place) -> Option<Spot<'a, G>>
         ensures { MatchOption result (OnGrid G.LAYERS map.now.rows map.now.columns place → ⊥) (λ s. (s.place ≡ place) × (s.map.now ≡ map.now)) }
     {
+        // An `if`: the closure of a `then` would not know the test, and a spot is made only where it holds.
         if (1..=G::LAYERS).contains(&place.layer)
             && place.row < map.rows
             && place.column < map.columns
@@ -168,6 +169,7 @@ impl<'a, G: Grid> Spot<'a, G> {
             place,
             grid: PhantomData,
         };
+        // An `if`: after a `then` the proof by cases does not close.
         if self.passes(step) && !to.has_pad() {
             Some(to.cell())
         } else {

@@ -13,6 +13,8 @@ pub enum MapKind {
     EscapeMap,
 }
 
+// The sides and the bytes come apart, as users give them; a `Map` holds them together once they are accepted.
+//
 // Whether a board is made from a map of these rows, columns and bytes, one for each point, row after row; or else the first
 // thing that is wrong with it.
 pub fn check_map(kind: MapKind, rows: u16, columns: u16, bytes: &[u8]) -> Result<(), BoardRefusal>

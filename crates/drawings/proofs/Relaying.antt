@@ -26,7 +26,7 @@ first_none Barred e = refl
 first_none (Net None a) e = refl
 first_none (Net (Some s) a) e = absurd (false≢true e)
 
-laid_long : (b : Option ℕ) (xs : List ℕ) (e : List Record) → length (laid_after b xs e) ≡ length e
+pub laid_long : (b : Option ℕ) (xs : List ℕ) (e : List Record) → length (laid_after b xs e) ≡ length e
 laid_long b [] e = refl
 laid_long b (x ∷ xs) e = laid_long (Some x) xs (set e x (Net b (head_of xs))) ∙ length-set e x (Net b (head_of xs))
 

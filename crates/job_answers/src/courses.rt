@@ -18,6 +18,7 @@ pub fn course<B: PlacedBoard>(
     let Some((_, later)) = cells.split_first() else {
         return Ok(None);
     };
+    // A loop, since it is left at the first cell that lies no step further, and memory can run out on the way.
     let mut letters = Vec::new(heap);
     for (from, to) in cells.iter().zip(later) {
         let Some(step) = step_from(board, *from, *to) else {
@@ -53,7 +54,7 @@ pub fn step_between(from: Place, to: Place) -> Option<Step>
     }
 }
 
-// The letter of a step.
+// The letter of a step. A function, since steps are of another crate.
 pub fn letter_of(step: Step) -> u8
     ensures { result ≡ letter step }
 {

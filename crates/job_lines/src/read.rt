@@ -24,7 +24,7 @@ pub fn spellings_differ() -> u8
     0
 }
 
-// What follows a verb.
+// What follows a verb. A `match` over the verb: what is read differs in type, so a table of readers would have to box them.
 fn read_rest<'a>(verb: Verb, text: &'a [u8]) -> Option<Line<'a>>
     ensures { ReadsRest verb text.now result }
 {

@@ -14,9 +14,9 @@ const UNTOUCHED: u8 = 170;
 fn main(rt: HostRuntime) -> anyhow::Result<()> {
     let trials = io::read_to_string(rt.alloc(), rt.stdin())?;
     for trial in trials.as_str().lines() {
-        let Some((name, room)) = trial.split_once(' ') else {
-            return Err(anyhow!("a name and a size"));
-        };
+        let (name, room) = trial
+            .split_once(' ')
+            .ok_or_else(|| anyhow!("a name and a size"))?;
         try_job(&rt, name, room.parse::<usize>()?)?;
     }
     Ok(())

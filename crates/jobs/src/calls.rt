@@ -127,6 +127,7 @@ impl<B: PlacedBoard> Setting<'_, B> {
             desk.old.drawing.items (wish_of order.entry.wish) order.entry.place desk.new.drawing.items v.items) }
         ensures ready { OnOk result (Ready (B.Board.meaning self.now.board.now) desk.new) }
     {
+        // A `match` over what the line wishes: a table of steps would have to box them.
         match order.wish {
             Wish::Call(kind) => answer_line(self.heap, self.make_call(desk, kind, order.place)),
             Wish::Course(name) => self.tell_course(desk, name, order.place),

@@ -28,6 +28,7 @@ impl JobFault {
     pub fn number(self) -> u8
         ensures { result ≡ job_fault_number self }
     {
+        // A `match`, since one case holds the fault of a line.
         match self {
             JobFault::Line(fault) => fault.number(),
             JobFault::Sizes => 21,

@@ -87,7 +87,8 @@ fn perform_rest(
     }
 }
 
-// The calls, on the board that was read.
+// The calls, on the board that was read. That the lines can be counted ties the text that is left to those before it, so it is said at
+// each of the functions that take both.
 fn perform_plan(
     heap: Global,
     plan: Plan,

@@ -24,6 +24,8 @@ fn point(k: u16) -> u16
     }
 }
 
+// There are at most 2,048 points; a type for one number would be opened at every use, so each function says it.
+//
 // The map: pads at the first two points of the course, landings at the last two.
 fn map(heap: Global, points: u16) -> Result<Vec<u8>, AllocError>
     requires { points ≤ 2048 }

@@ -1,13 +1,9 @@
 -- Lists in which nothing stands twice.
 use Rattle.std.proofs.Common.{◌≡◌, ℕ, List, [], ◌∷◌, ◌++◌, map, refl, ap, ◌∙◌, inl, inr}
 use Rattle.linkages.specs.Lists.{Mem, here, there, Distinct}
-use Rattle.linkages.proofs.Members.{mem_at, mem_map, mem_of_map}
+use Rattle.linkages.proofs.Members.{mem_at, mem_front, mem_map, mem_of_map}
 use Rattle.drawings.proofs.Members.{mem_append_cases}
 use Rattle.layouts.specs.Layouts.{Different}
-
-pub mem_append_left : {E : Type 0} {c : E} {xs : List E} (ys : List E) → Mem c xs → Mem c (xs ++ ys)
-mem_append_left ys (here e) = here e
-mem_append_left ys (there k) = there (mem_append_left ys k)
 
 pub distinct_from : (xs : List ℕ) → Different xs → Distinct xs
 distinct_from [] d = tt
@@ -19,7 +15,7 @@ distinct_to (x ∷ xs) d = (d.0, distinct_to xs d.1)
 
 pub different_left : {E : Type 0} (xs ys : List E) → Different (xs ++ ys) → Different xs
 different_left [] ys d = tt
-different_left (x ∷ xs) ys d = (λ k. d.0 (mem_append_left ys k), different_left xs ys d.1)
+different_left (x ∷ xs) ys d = (λ k. d.0 (mem_front ys k), different_left xs ys d.1)
 
 pub different_right : {E : Type 0} (xs ys : List E) → Different (xs ++ ys) → Different ys
 different_right [] ys d = d

@@ -14,7 +14,7 @@ use Rattle.boards.specs.GridsLemmas.{cell_below, place_of_cell}
 use Rattle.boards.specs.MapBoards.{map_bounded}
 use Rattle.linkages.specs.Lists.{Mem, here, there, Distinct}
 use Rattle.linkages.specs.Paths.{Landing, Unbarred, Walk, stop, step, Linkage, upto_landing}
-use Rattle.linkages.proofs.Members.{mem_none, mem_cases, mem_at, mem_map, mem_of_map}
+use Rattle.linkages.proofs.Members.{mem_none, mem_cases, mem_at, mem_front, mem_map, mem_of_map}
 use Rattle.records.specs.declared.record.Record.{Record}
 use Rattle.drawings.specs.Nets.{last_of}
 use Rattle.drawings.proofs.Members.{mem_append_right, mem_append_cases}
@@ -24,7 +24,7 @@ use Rattle.layouts.specs.declared.wires.Layer.TheVariants.{Top, Bottom}
 use Rattle.layouts.specs.Layouts.{Course, stops, steps, Wire, Legal, Different, PadPoint, LandingPoint, OnMap, on_layer, places_on, firsts, lasts, occupied}
 use Rattle.layouts.specs.Readings.{point_of}
 use Rattle.layouts.specs.Theorems.{top_cell, point_at, Draws, LayoutsAreDrawings}
-use Rattle.layouts.proofs.Differences.{mem_append_left, distinct_from, different_append, different_map}
+use Rattle.layouts.proofs.Differences.{distinct_from, different_append, different_map}
 use Rattle.layouts.proofs.Moves.{point_eq, along, down, pad_is, landing_is, move_outlet}
 use Rattle.layouts.proofs.Trails.{course_firsts, course_lasts}
 use Rattle.layouts.proofs.Linkages.{linkages_draw}
@@ -123,9 +123,9 @@ occupied_differ Bottom ps d =
 
 -- the top of the pad is occupied
 pad_occupied : {R C : ℕ} {z p : Point} {ps : List Point} (l : Layer) → Course R C z p ps → Mem (on_layer 1 p) (places_on l ps)
-pad_occupied {ps = ps} Top c = mem_append_left (map (on_layer 2) (lasts ps)) (mem_map (on_layer 1) (course_head c))
+pad_occupied {ps = ps} Top c = mem_front (map (on_layer 2) (lasts ps)) (mem_map (on_layer 1) (course_head c))
 pad_occupied {p = p} {ps = ps} Bottom c =
-    mem_append_left (map (on_layer 2) ps) (mem_map (on_layer 1) (subst (Mem p) (sym (course_firsts c)) (here refl)))
+    mem_front (map (on_layer 2) ps) (mem_map (on_layer 1) (subst (Mem p) (sym (course_firsts c)) (here refl)))
 
 -- each occupied place is a point of the course, on layer 1 or 2
 point_occupied : (l : Layer) (ps : List Point) (o : Place) → Mem o (places_on l ps) → (q : Point) × Mem q ps × ((o ≡ on_layer 1 q) ⊎ (o ≡ on_layer 2 q))
@@ -250,7 +250,7 @@ module _ (R C : ℕ) (bytes : List ℕ) (sides : SidesAllowed R C) where
             ((q : Point) → Mem q (rest ps) → Mem (on_layer 1 q) (places_on l ps) → pad_point (byte_at C bytes (on_layer 1 q)) ≡ false) →
             Walk (field R C bytes) barred (cell_of R C (on_layer 2 (G.wires p i).landing)) (top_cell R C p) (map (cell_of R C) (places_on l ps))
         go Top ps c f n =
-            let own : (q : Point) → Mem q ps → Mem (on_layer 1 q) (places_on Top ps) = λ q k. mem_append_left (map (on_layer 2) (lasts ps)) (mem_map (on_layer 1) k) in
+            let own : (q : Point) → Mem q ps → Mem (on_layer 1 q) (places_on Top ps) = λ q k. mem_front (map (on_layer 2) (lasts ps)) (mem_map (on_layer 1) k) in
             walk_top barred c (λ q k. f (on_layer 1 q) i (own q k))
             (f (on_layer 2 (G.wires p i).landing) i (mem_append_right (map (on_layer 1) ps) (mem_map (on_layer 2) (course_last c))))
             (G.wires p i).to_landing (λ q k. n q k (own q (mem_rest ps k)))

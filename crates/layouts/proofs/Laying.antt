@@ -14,7 +14,7 @@ use Rattle.drawings.specs.Changes.{head_of, laid, laid_after}
 use Rattle.drawings.specs.Lawful.{Local}
 use Rattle.drawings.proofs.Said.{none_not_some}
 use Rattle.drawings.proofs.Locals.{local_free}
-use Rattle.drawings.proofs.Relaying.{laid_outside}
+use Rattle.drawings.proofs.Relaying.{laid_long, laid_outside}
 
 -- the cells of the list lie as one net, and the first names b before it
 pub data Lies (d : List Record) : Option ℕ → List ℕ → Type 0 where
@@ -25,10 +25,6 @@ pub lies_kept : {d : List Record} {b : Option ℕ} {xs : List ℕ} (e : List Rec
     ((k : ℕ) → Mem k xs → record_at e k ≡ record_at d k) → Lies e b xs
 lies_kept e no_more f = no_more
 lies_kept e (and_then {c = c} p l) f = and_then (f c (here refl) ∙ p) (lies_kept e l (λ k m. f k (there m)))
-
-pub laid_length : (b : Option ℕ) (xs : List ℕ) (d : List Record) → length (laid_after b xs d) ≡ length d
-laid_length b [] d = refl
-laid_length b (x ∷ xs) d = laid_length (Some x) xs (set d x (Net b (head_of xs))) ∙ length-set d x (Net b (head_of xs))
 
 pub laid_lies : (b : Option ℕ) (xs : List ℕ) (d : List Record) → Distinct xs → ((k : ℕ) → Mem k xs → k < length d) → Lies (laid_after b xs d) b xs
 laid_lies b [] d u f = no_more
@@ -73,7 +69,7 @@ laid_all (xs ∷ xss) d = laid_all xss (laid xs d)
 
 pub laid_all_length : (xss : List (List ℕ)) (d : List Record) → length (laid_all xss d) ≡ length d
 laid_all_length [] d = refl
-laid_all_length (xs ∷ xss) d = laid_all_length xss (laid xs d) ∙ laid_length None xs d
+laid_all_length (xs ∷ xss) d = laid_all_length xss (laid xs d) ∙ laid_long None xs d
 
 pub laid_all_outside : (xss : List (List ℕ)) (d : List Record) (k : ℕ) → OffNets xss k → record_at (laid_all xss d) k ≡ record_at d k
 laid_all_outside [] d k n = refl
@@ -87,7 +83,7 @@ laid_all_lie (ys ∷ xss) d j u f xs m =
     mem_each (Lies (laid_all xss (laid ys d)) None)
     (lies_kept (laid_all xss (laid ys d)) (laid_lies None ys d (u ys (here refl)) (λ k. f ys k (here refl)))
     (λ k m. laid_all_outside xss (laid ys d) k (λ zs i h. j.0 zs k i m h)))
-    (laid_all_lie xss (laid ys d) j.1 (λ xs m. u xs (there m)) (λ xs k m h. subst (λ n. k < n) (sym (laid_length None ys d)) (f xs k (there m) h)))
+    (laid_all_lie xss (laid ys d) j.1 (λ xs m. u xs (there m)) (λ xs k m h. subst (λ n. k < n) (sym (laid_long None ys d)) (f xs k (there m) h)))
     xs m
 
 -- ---- cells on no net keep the rules

@@ -25,7 +25,7 @@ mem_each P h k c (there i) = k c i
 pub meets_more : {X X' xs xs' : List ℕ} → Within X X' → Within xs xs' → Meets X xs → Meets X' xs'
 meets_more w v h = record { cell = h.cell; of = w h.cell h.of; on = v h.cell h.on }
 
-pub mem_front : {c : ℕ} {xs : List ℕ} (ys : List ℕ) → Mem c xs → Mem c (xs ++ ys)
+pub mem_front : {A : Type 0} {c : A} {xs : List A} (ys : List A) → Mem c xs → Mem c (xs ++ ys)
 mem_front ys (here e) = here e
 mem_front ys (there k) = there (mem_front ys k)
 

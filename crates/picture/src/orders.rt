@@ -18,6 +18,7 @@ pub struct Outcome {
 pub fn perform<B: Board>(heap: Global, board: &B, orders: &[Order]) -> Result<Outcome, AllocError> {
     let cells = board.cells() as usize;
     let mut drawing = vec![in heap; Record::Free; cells]?;
+    // A loop, since each call owns memory, and making it can fail.
     let mut calls = Vec::new(heap);
     for order in orders {
         calls.push(Call {

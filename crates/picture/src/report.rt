@@ -34,6 +34,7 @@ fn report_sheet(heap: Global, sheet: Sheet) -> Result<String, AllocError> {
         let number = refusal.number();
         return format!(in heap; "refused, {number}: {refusal}\n");
     }
+    // The two boards differ in type, so each arm makes its own.
     match kind {
         MapKind::FieldMap => {
             report_board(heap, &Field::new(rows, columns, bytes), &orders, shape)

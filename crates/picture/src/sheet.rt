@@ -81,6 +81,7 @@ pub fn read_sheet(heap: Global, text: &str) -> Result<Sheet, SheetError> {
         .ok_or(SheetError::Header)?;
     let mut bytes = Vec::new(heap);
     let mut orders = Vec::new(heap);
+    // A loop, since a line goes into one list or the other.
     for (i, text) in lines.enumerate() {
         let line = i.saturating_add(2);
         if i < shape.rows as usize {

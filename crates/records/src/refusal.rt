@@ -38,6 +38,7 @@ impl Refusal {
     pub fn number(&self) -> u8
         ensures { result ≡ number_of self.now }
     {
+        // A `match`, since the cases of an enum have no numbers of their own where one of them holds values.
         match self {
             Refusal::WrongDrawing => 1,
             Refusal::ShortWork => 2,

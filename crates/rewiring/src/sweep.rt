@@ -62,7 +62,8 @@ fn free_strays(drawing: &mut [Record], marks: &[u16])
     }
 }
 
-// Frees the rings of a drawing in which every rule that looks at one cell holds.
+// Frees the rings of a drawing in which every rule that looks at one cell holds. Drawing and marks are the caller's memory, each a
+// parameter of its own.
 pub fn sweep<B: Board>(board: &B, drawing: &mut [Record], marks: &mut [u16])
     requires long { length drawing.old ≡ (B.meaning board.now).cells }
     requires local { (c : ℕ) → Local (B.meaning board.now) drawing.old c }

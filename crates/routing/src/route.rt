@@ -21,7 +21,8 @@ pub fn zero(numbers: &mut [u16])
 
 // Wires an unwired and unbarred pad of a lawful drawing, moving wires as need be, and gives back the landing that is used then.
 // Where there is no way it writes the fence to report memory and gives back its pads and cells by number, as a pair, which is the
-// form that every refused search has; the drawing and the spare numbers are as before.
+// form that every refused search has; the drawing and the spare numbers are as before. Drawing, spare numbers and report are the
+// caller's memory, each lent by itself, so what ties them to the board is said at each step and not in a type.
 pub fn route<B: Board>(
     board: &B,
     drawing: &mut [Record],

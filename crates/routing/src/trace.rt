@@ -15,6 +15,7 @@ pub fn trace(visits: &Visits<'_>, last: u16, trail: &mut [u16]) -> usize
     ensures course { Course visits.now.queue visits.now.from last 0 (drop result trail.new) }
 {
     let mut place = last;
+    // By place, since the place where the trail begins is the answer.
     for first in (0..trail.len()).rev() {
         trail[first] = visits.queue[place as usize];
         if place == 0 {

@@ -33,6 +33,7 @@ fn try_row(heap: Global, row: Row) -> Result<String, AllocError> {
         kept,
         orders,
     } = row;
+    // The three boards differ in type, so each arm makes its own.
     match kind {
         Kind::Field => try_board(heap, Field::new(rows, columns, bytes), &kept, &orders),
         Kind::Escape => try_board(heap, Escape::new(rows, columns, bytes), &kept, &orders),
@@ -53,6 +54,7 @@ fn try_board<B: Board + Drop>(
     }
     let mut trial = Trial::new(heap, &board)?;
     let mut answers = Vec::new(heap);
+    // A loop, since each call changes the drawing for the next.
     for order in orders {
         let answer = trial.call(heap, *order)?;
         let fault = if trial.stands() { "" } else { " bad" };
@@ -106,6 +108,7 @@ impl<'a, B: Board> Trial<'a, B> {
 
     fn enter(&mut self, order: Order) -> Result<(), AllocError> {
         let Order { kind, cell } = order;
+        // A `match`, since a set is told by more than one kind.
         match kind {
             calls::Kind::Place => self.wired.insert(cell)?,
             calls::Kind::Lift => self.wired.remove(&cell),
