@@ -13,7 +13,8 @@ use boards::board::Board;
 use drawings::nets::{lay, list_net, take_up};
 use records::record::{Record, put, record_at};
 
-// The first cell of the net that a cell is on.
+// The first cell of the net that a cell is on. The links are followed by a loop, whose end is proved; of an iterator of successors
+// no end is known.
 pub fn first_of(drawing: &[Record], cell: u16) -> u16
     requires lawful { (m : Meaning) × Lawful m drawing.now }
     requires on_net { net_at drawing.now cell ≡ true }
