@@ -30,7 +30,7 @@ pub(crate) struct Said {
     pub(crate) fault: Option<LineFault>,
 }
 
-// Why a line is not answered.
+// Why a line is not answered. Reading a board has one end more, so its crate has such an enum of its own.
 #[derive(Clone, Copy, PartialEq, Eq, Debug)]
 pub(crate) enum Stop {
     Fault(LineFault),

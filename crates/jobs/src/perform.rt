@@ -36,7 +36,7 @@ pub struct Transcript {
     pub fault: Option<LineFault>,
 }
 
-// Performs a job with so much room for what is said.
+// Performs a job with so much room for what is said. The heap and the room go on as parameters, as callers give them here.
 pub fn perform(heap: Global, job: &[u8], room: usize) -> Result<Transcript, AllocError>
     ensures { IfOk result (λ t. Job room (lines_of job.now) t.drawing.items t.said.items t.fault) }
 {
