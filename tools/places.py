@@ -79,20 +79,12 @@ def loops(text):
             yield m.start(), "a collection"
 
 
-# 4. Equality, conversion and printing by hand, and types without derives.
+# 4. Equality, conversion and printing by hand.
 BY_HAND = [
     ("a conversion or a text by hand", r"^\s*(?:pub(?:\(crate\))? )?fn (?:number|word|letter_of|layer|meaning|same|read_kind|read_call|read_verb|line_fault|digit)\b"),
     ("equality by hand", r"(\w+)\.(\w+) == (\w+)(?:\.\2)?\s*&&\s*\(?\1\.(\w+) == (?:\3\.\4|\w+)"),
     ("a test for a case by match", r"^\s*Record::(?:Free|Barred)(?: \| [\w:]+)? => (?:true|false|None),"),
-    ("an enum or a struct without Debug", None),
 ]
-
-
-def underived(text):
-    for m in re.finditer(r"^((?:#\[.*\]\n)*)pub(?:\(crate\))? (?:struct|enum) (\w+)|^((?:#\[.*\]\n)*)(?:struct|enum) (\w+)", text, re.M):
-        attributes = m.group(1) if m.group(2) else m.group(3)
-        if "Debug" not in (attributes or "") and f"Debug for {m.group(2) or m.group(4)}" not in text:
-            yield m.start()
 
 
 # 5. Clauses and parameters that come again and again.
@@ -151,22 +143,20 @@ SWITCHES = [("a switch on which step to run", r"match (?:kind|mark|verb|plan\.ki
 
 def search(files, kinds):
     for kind, pattern in kinds:
-        if pattern:
-            for name, text in files.items():
-                for m in re.finditer(pattern, text, re.M):
-                    yield kind, name, line_of(text, m.start())
+        for name, text in files.items():
+            for m in re.finditer(pattern, text, re.M):
+                yield kind, name, line_of(text, m.start())
 
 
 def places(commit):
     files = sources(commit)
-    code = {n: t for n, t in files.items()}
-    yield 1, list(search(code, WRAPS))
-    yield 3, [(kind, n, line_of(t, at)) for n, t in code.items() for at, kind in loops(t)]
-    yield 4, list(search(code, BY_HAND)) + [("no Debug", n, line_of(t, at)) for n, t in code.items() for at in underived(t)]
-    yield 5, ([(f"{c}: {fact}", ", ".join(sorted(w)), 0) for (c, fact), w in sorted(facts(code).items())]
-              + [(f"{c}: parameters {', '.join(g)}", f"{k} functions", 0) for c, g, k in travellers(code)])
-    yield 6, list(search(code, BUFFERS))
-    yield 7, list(search(code, SWITCHES))
+    yield 1, list(search(files, WRAPS))
+    yield 3, [(kind, n, line_of(t, at)) for n, t in files.items() for at, kind in loops(t)]
+    yield 4, list(search(files, BY_HAND))
+    yield 5, ([(f"{c}: {fact}", ", ".join(sorted(w)), 0) for (c, fact), w in sorted(facts(files).items())]
+              + [(f"{c}: parameters {', '.join(g)}", f"{k} functions", 0) for c, g, k in travellers(files)])
+    yield 6, list(search(files, BUFFERS))
+    yield 7, list(search(files, SWITCHES))
     answers = sources(commit, ".antt", "proofs")
     yield 8, [(f"{c}: answers", f"{k}", 0) for c, k in sorted(collections.Counter(
         n.split("/")[1] for n, t in answers.items() if n.endswith("Answers.antt")

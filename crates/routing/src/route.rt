@@ -44,7 +44,7 @@ pub fn route<B: Board>(
     match search(board, drawing, visits, pad) {
         Some(landing) => {
             let last = visits.count - 1;
-            let first = trace(visits, last, spare);
+            let first = trace(visits.queued(), visits.origins(), last, spare);
             rewire(board, drawing, &spare[first..], visits.entered);
             Ok(landing)
         }

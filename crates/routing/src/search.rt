@@ -70,6 +70,20 @@ impl<'a> Visits<'a> {
         self.entered
     }
 
+    // The cells that were entered, in their order.
+    pub(crate) fn queued(&self) -> &[u16]
+        ensures { result.now ≡ self.now.queue }
+    {
+        self.queue
+    }
+
+    // The places of the cells that they were entered from.
+    pub(crate) fn origins(&self) -> &[u16]
+        ensures { result.now ≡ self.now.from }
+    {
+        self.from
+    }
+
     // Forgets every cell. Says as well what the type knows of the memory.
     fn clear(&mut self)
         ensures alike { Spans (length self.old.entered) self.old }

@@ -96,7 +96,7 @@ fn read_map(heap: Global, digits: &str) -> Result<Vec<u8>, RowError> {
         .try_collect(heap)
 }
 
-// The value of a decimal digit.
+// The value of a decimal digit. By hand, since what `to_digit` of a char answers is wider than a byte.
 fn digit(byte: u8) -> Option<u8>
     ensures digit { 48 ≤ byte → byte ≤ 57 → result ≡ Some (byte - 48) }
     ensures below { byte < 48 → result ≡ None }

@@ -1,7 +1,8 @@
-use Rattle.std.proofs.Common.{◌-◌, sym, refl, ap, subst}
+use Rattle.std.proofs.Common.{◌-◌, drop, sym, refl, ap, subst}
 use Rattle.linkages.specs.Nets.{Failed}
 use Rattle.drawings.specs.Nets.{bars, nets}
 use Rattle.routing.specs.Searches.{was_entered, Ended}
+use Rattle.routing.specs.Courses.{Course}
 use Rattle.routing.proofs.Routes.{written_trail, wired_also, fence_shown}
 use Rattle.routing.proofs.route.route.Goals as goal
 
@@ -16,7 +17,9 @@ rewire-requires-clause-trail g c =
       (
         z,
         written_trail m d p c.requires.is_pad c.requires.unwired s z _ c.trace-first.new.trail c.trace-first.result
-            (subst (Ended m d p s) c.in-Some.is c.search.ensures) (ap (λ v. v.count - 1) c.visits.view_is) c.trace-first.ensures.course,
+            (subst (Ended m d p s) c.in-Some.is c.search.ensures) (ap (λ v. v.count - 1) c.visits.view_is)
+            (subst (λ Q. Course Q s.from (c.visits.inside.count - 1) 0 (drop c.trace-first.result c.trace-first.new.trail)) c.queued.ensures
+            (subst (λ F. Course c.queued.result.now F (c.visits.inside.count - 1) 0 (drop c.trace-first.result c.trace-first.new.trail)) c.origins.ensures c.trace-first.ensures.course)),
       ),
     )
 
@@ -28,7 +31,9 @@ returns-in-Some-clause-routed g c =
     let s = c.search.new.visits in
     let z = c.in-Some.landing in
     let way = written_trail m d p c.requires.is_pad c.requires.unwired s z _ c.trace-first.new.trail c.trace-first.result
-    (subst (Ended m d p s) c.in-Some.is c.search.ensures) (ap (λ v. v.count - 1) c.visits.view_is) c.trace-first.ensures.course in
+    (subst (Ended m d p s) c.in-Some.is c.search.ensures) (ap (λ v. v.count - 1) c.visits.view_is)
+    (subst (λ Q. Course Q s.from (c.visits.inside.count - 1) 0 (drop c.trace-first.result c.trace-first.new.trail)) c.queued.ensures
+    (subst (λ F. Course c.queued.result.now F (c.visits.inside.count - 1) 0 (drop c.trace-first.result c.trace-first.new.trail)) c.origins.ensures c.trace-first.ensures.course)) in
     (wired_also m d p c.requires.is_pad c.requires.unwired c.rewire.new.drawing z _ way (c.rewire.ensures p z way), refl)
 
 pub returns-in-None-clause-routed : goal.returns-in-None-clause-routed

@@ -7,5 +7,5 @@ abbrev pub invariant-loop-first : goal.invariant-loop-first
 invariant-loop-first l = record {
   fits : l.place < l.first;
   so_far : l.place ≤ l.last;
-  course : Course l.visits.queue l.visits.from l.last l.place (get_or l.visits.queue l.place 0 ∷ drop l.first l.trail);
+  course : Course l.queue l.from l.last l.place (get_or l.queue l.place 0 ∷ drop l.first l.trail);
 }
