@@ -92,7 +92,7 @@ impl<B: Board> Board for KeepOut<B> {
         if self.is_closed(cell) {
             return None;
         }
-        // A loop for its speed, as in `Spot::outlet`.
+        // A loop for its speed, as in `Spot::outlet`, over what this board has: a closure for the difference would cost what it saves.
         let mut left = j;
         for i in 0..8 {
             if let Some(next) = self.open_outlet(cell, i) {

@@ -60,7 +60,7 @@ impl<M: MapBoard> PlacedBoard for M {
 
     ghost placed = { λ b. held_placed M.LAYERS M.steps M.landing M.few (M.held b) };
 
-    // A `match`: where there is no map the board of one cell answers, and no Option is wrapped again.
+    // A `match` here and below: where there is no map the board of one cell answers, and no Option is wrapped again.
     fn place(&self, cell: u16) -> Option<Place> {
         match self.map() {
             Some(map) => Spot::<M>::of_cell(map, cell).map(|spot| spot.place),

@@ -13,10 +13,9 @@ pub enum MapKind {
     EscapeMap,
 }
 
-// The sides and the bytes come apart, as users give them; a `Map` holds them together once they are accepted.
-//
 // Whether a board is made from a map of these rows, columns and bytes, one for each point, row after row; or else the first
 // thing that is wrong with it.
+// Sides and bytes are given one by one, as users have them; a `Map` holds them together once they are accepted.
 pub fn check_map(kind: MapKind, rows: u16, columns: u16, bytes: &[u8]) -> Result<(), BoardRefusal>
     ensures { Answer number_of (MapFault kind rows columns bytes.now) (λ _. Unit {0}) result }
 {

@@ -9,7 +9,8 @@ ghost use Rattle.drawings.specs.Changes.{freed, laid, written, Measured, TakenUp
 
 use records::record::{Record, put, record_at};
 
-// The cells met by going on from one cell to the cell after it. They are never more than there are records, so a ring ends too.
+// The cells met by going on from one cell to the cell after it. They are never more than there are records, so a ring ends too. A type
+// of its own, since its contract tells the cells that are left in the words of the specifications.
 #[derive(Debug, Drop)]
 pub struct Following<'a> {
     drawing: &'a [Record],
@@ -84,6 +85,7 @@ pub fn take_up(drawing: &mut [Record], first: u16) -> Option<u16>
 pub fn lay(drawing: &mut [Record], cells: &[u16])
     ensures { drawing.new ≡ laid cells.now drawing.old }
 {
+    // The list is taken apart from the front, since each cell is written with both of its neighbours.
     let mut before = None;
     let mut rest = cells;
     while let [cell, others @ ..] = rest {
@@ -99,6 +101,7 @@ fn list_from(drawing: &[Record], first: u16, into: &mut [u16])
     requires { length (net drawing.now first) ≤ length into.old }
     ensures { into.new ≡ written (net drawing.now first) into.old }
 {
+    // By place: after an adapter of `iter_mut` nothing is known of the numbers that were written.
     for (place, cell) in follow(drawing, first).enumerate() {
         into[place] = cell;
     }

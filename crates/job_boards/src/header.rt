@@ -22,8 +22,7 @@ impl Header {
     pub(crate) fn has(self, place: Place) -> bool
         ensures { IsTrue result ↔ OnGrid (layers self.kind) self.rows self.columns place }
     {
-        1 <= place.layer
-            && place.layer <= layer_count(self.kind)
+        (1..=layer_count(self.kind)).contains(&place.layer)
             && place.row < self.rows
             && place.column < self.columns
     }

@@ -33,6 +33,7 @@ impl Pad<'_> {
     pub(crate) fn takes(self, other: Pad) -> bool
         ensures { IsTrue result ↔ Takes (named self.entry) other.entry.name.now other.entry.row other.entry.column }
     {
+        // By row and column, since `==` of two pads compares their names too.
         self.name == other.name || self.row == other.row && self.column == other.column
     }
 }

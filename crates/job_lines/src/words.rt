@@ -10,7 +10,7 @@ pub fn cut<'a>(text: &'a [u8], byte: u8) -> Option<(&'a [u8], &'a [u8])>
     Some((&text[..at], &text[at + 1..]))
 }
 
-// Whether two words are the same. It is public, and stays for callers that have it.
+// Whether two words are the same. The name is public, so it stays beside `==`.
 pub fn same(a: &[u8], b: &[u8]) -> bool
     ensures { Decides result (a.now ≡ b.now) }
 {

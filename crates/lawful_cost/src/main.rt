@@ -24,9 +24,8 @@ fn point(k: u16) -> u16
     }
 }
 
-// There are at most 2,048 points; a type for one number would be opened at every use, so each function says it.
-//
 // The map: pads at the first two points of the course, landings at the last two.
+// There are at most 2,048 points; a type for one number would be opened at every use, so each function says it.
 fn map(heap: Global, points: u16) -> Result<Vec<u8>, AllocError>
     requires { points ≤ 2048 }
 {
@@ -63,7 +62,7 @@ fn upper(heap: Global, points: u16) -> Result<Vec<u16>, AllocError>
         .collect(heap)
 }
 
-// The argument of a number, or 0.
+// The next argument as a number, or 0. `place_cost` has the same chain, and no crate below both is for arguments.
 fn number(args: &mut env::Args) -> u16 {
     args.next()
         .and_then(|text| text.as_str().parse().ok())

@@ -18,6 +18,7 @@ use drawings::nets::follow;
 use records::record::Record;
 use records::refusal::Refusal;
 
+// The place of no cell, as the definitions have it, which speak of lists of places.
 const NOWHERE: Place = Place {
     layer: 0,
     row: 0,

@@ -18,16 +18,10 @@ pub struct Outcome {
 pub fn perform<B: Board>(heap: Global, board: &B, orders: &[Order]) -> Result<Outcome, AllocError> {
     let cells = board.cells() as usize;
     let mut drawing = vec![in heap; Record::Free; cells]?;
-    // A loop, since each call owns memory, and making it can fail.
-    let mut calls = Vec::new(heap);
-    for order in orders {
-        calls.push(Call {
-            order: *order,
-            work: vec![in heap; 0; 4 * cells]?,
-            report: vec![in heap; 0; 2 * cells]?,
-            answer: None,
-        })?;
-    }
+    let mut calls: Vec<Call> = orders
+        .iter()
+        .map(|order| call_for(heap, *order, cells))
+        .try_collect(heap)?;
     let _ = run(board, &mut drawing, &mut calls);
     let mut answers = String::new(heap);
     for call in &calls {
@@ -36,47 +30,52 @@ pub fn perform<B: Board>(heap: Global, board: &B, orders: &[Order]) -> Result<Ou
     Ok(Outcome { drawing, answers })
 }
 
+// A call to be made, with memory for a board of so many cells.
+fn call_for(heap: Global, order: Order, cells: usize) -> Result<Call, AllocError> {
+    Ok(Call {
+        order,
+        work: vec![in heap; 0; cells.saturating_mul(4)]?,
+        report: vec![in heap; 0; cells.saturating_mul(2)]?,
+        answer: None,
+    })
+}
+
 // A line with a call and its answer.
 fn say(text: &mut String, call: &Call) -> Result<(), AllocError> {
     let Order { kind, cell } = call.order;
     write!(text, "{kind} {cell}: ")?;
     match call.answer {
         Some(Ok(number)) => writeln!(text, "ok {number}"),
-        Some(Err(Refusal::NoWay { pads, cells })) => {
-            let shown_pads = Numbers::new(&call.report, 0, pads);
-            let shown_cells = Numbers::new(&call.report, pads, cells);
-            writeln!(text, "no 12, pads{shown_pads} behind cells{shown_cells}")
+        Some(Err(refusal)) => {
+            write!(text, "no {}", refusal.number())?;
+            if let Refusal::NoWay { pads, cells } = refusal {
+                let shown = part(&call.report, 0, pads);
+                let fence = part(&call.report, pads, cells);
+                write!(text, ", pads{shown} behind cells{fence}")?;
+            }
+            writeln!(text)
         }
-        Some(Err(refusal)) => writeln!(text, "no {}", refusal.number()),
         None => writeln!(text, "not made"),
     }
 }
 
-// Some of the numbers in report memory, a blank before each.
+// Numbers, a blank before each.
 #[derive(Clone, Copy, Debug)]
-struct Numbers<'a> {
-    report: &'a [u16],
-    from: usize,
-    count: usize,
-}
-
-impl<'a> Numbers<'a> {
-    fn new(report: &'a [u16], from: u16, count: u16) -> Self {
-        Numbers {
-            report,
-            from: from as usize,
-            count: count as usize,
-        }
-    }
-}
+struct Numbers<'a>(&'a [u16]);
 
 impl fmt::Display for Numbers<'_> {
     fn fmt<W: fmt::Write>(&self, f: &mut fmt::Formatter<W>) -> fmt::Result {
-        for number in self.report.iter().skip(self.from).take(self.count) {
+        for number in self.0 {
             write!(f, " {number}")?;
         }
         Ok(())
     }
+}
+
+// So many of the numbers in report memory, from a place on.
+fn part(report: &[u16], from: u16, count: u16) -> Numbers<'_> {
+    let from = from as usize;
+    Numbers(report.get(from..from + count as usize).unwrap_or_default())
 }
 
 // A line for each wired pad: the cells of its net, from the pad to the landing.
@@ -91,7 +90,7 @@ pub fn courses<B: Board>(
         if record_at(drawing, pad).is_first()
             && let Ok(count) = show(board, drawing, &mut report, pad)
         {
-            let course = Numbers::new(&report, 0, count);
+            let course = part(&report, 0, count);
             writeln!(text, "course of {pad}:{course}")?;
         }
     }

@@ -85,7 +85,7 @@ fn place_pads<B: Board>(heap: Global, board: &B, rows: u16, count: u16) -> Resul
     Ok(accepted)
 }
 
-// The next argument, or 0.
+// The next argument as a number, or 0. `lawful_cost` has the same chain, and no crate below both is for arguments.
 fn number(args: &mut env::Args) -> u16 {
     args.next()
         .and_then(|text| text.as_str().parse().ok())

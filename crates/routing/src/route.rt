@@ -21,8 +21,9 @@ pub fn zero(numbers: &mut [u16])
 
 // Wires an unwired and unbarred pad of a lawful drawing, moving wires as need be, and gives back the landing that is used then.
 // Where there is no way it writes the fence to report memory and gives back its pads and cells by number, as a pair, which is the
-// form that every refused search has; the drawing and the spare numbers are as before. Drawing, spare numbers and report are the
-// caller's memory, each lent by itself, so what ties them to the board is said at each step and not in a type.
+// form that every refused search has; the drawing and the spare numbers are as before.
+//
+// Drawing, spare numbers and report are the caller's memory, each lent by itself, so what ties them to the board is said at each step.
 pub fn route<B: Board>(
     board: &B,
     drawing: &mut [Record],
@@ -41,6 +42,7 @@ pub fn route<B: Board>(
     ensures routed { Routed (B.meaning board.now) drawing.old drawing.new pad report.old report.new result }
     ensures spared { OnErr result (spare.new ≡ spare.old) }
 {
+    // A `match`: both cases go on to do something of their own.
     match search(board, drawing, visits, pad) {
         Some(landing) => {
             let last = visits.count - 1;

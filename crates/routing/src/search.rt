@@ -64,24 +64,31 @@ impl<'a> Visits<'a> {
     }
 
     // The marks of the cells that were entered.
-    pub(crate) fn marks(&self) -> &[u16]
+    pub fn marks(&self) -> &[u16]
         ensures { result.now ≡ self.now.entered }
     {
-        self.entered
+        &self.entered[..]
     }
 
-    // The cells that were entered, in their order.
-    pub(crate) fn queued(&self) -> &[u16]
+    // The cells that were entered, in their order, at the front of the queue.
+    pub fn queued(&self) -> &[u16]
         ensures { result.now ≡ self.now.queue }
     {
-        self.queue
+        &self.queue[..]
     }
 
     // The places of the cells that they were entered from.
-    pub(crate) fn origins(&self) -> &[u16]
+    pub fn origins(&self) -> &[u16]
         ensures { result.now ≡ self.now.from }
     {
-        self.from
+        &self.from[..]
+    }
+
+    // How many cells were entered.
+    pub fn entered_count(&self) -> usize
+        ensures { result ≡ self.now.count }
+    {
+        usize::from(self.count)
     }
 
     // Forgets every cell. Says as well what the type knows of the memory.

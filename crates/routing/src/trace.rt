@@ -13,7 +13,7 @@ pub fn trace(queue: &[u16], from: &[u16], last: u16, trail: &mut [u16]) -> usize
     ensures course { Course queue.now from.now last 0 (drop result trail.new) }
 {
     let mut place = last;
-    // By place, since the place where the trail begins is the answer.
+    // By place: after an adapter of `iter_mut` nothing is known of the numbers that were written.
     for first in (0..trail.len()).rev() {
         trail[first] = queue[place as usize];
         if place == 0 {

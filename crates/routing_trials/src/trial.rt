@@ -108,7 +108,7 @@ impl<'a, B: Board> Trial<'a, B> {
 
     fn enter(&mut self, order: Order) -> Result<(), AllocError> {
         let Order { kind, cell } = order;
-        // A `match`, since a set is told by more than one kind.
+        // A `match`, since two kinds change each of the sets.
         match kind {
             calls::Kind::Place => self.wired.insert(cell)?,
             calls::Kind::Lift => self.wired.remove(&cell),

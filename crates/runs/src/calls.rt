@@ -17,7 +17,7 @@ pub enum Kind {
     Clear,
 }
 
-// A word by which no call is written.
+// That no call is written by a word.
 #[derive(Clone, Copy, PartialEq, Eq, Debug)]
 pub struct UnknownKind;
 
@@ -35,7 +35,14 @@ impl Kind {
     }
 }
 
-// The kind of call that a word is for.
+// The kind of call that a word is for, if there is one.
+pub fn read_kind(word: &str) -> Option<Kind>
+    ensures { ReadsKind word.now result }
+{
+    word.parse().ok()
+}
+
+// The same with an error of its own.
 impl FromStr for Kind {
     type Err = UnknownKind;
 
