@@ -11,6 +11,6 @@ pub extern "C" fn sumoalder_run_job(heap: Global, job: &[u8], output: &mut [u8])
     ensures { Entered job.now output.old output.new result }
 {
     let room = output.len().min(1 << 40);
-    let end = run_job(heap, job, &mut output[..room]);
+    let end = run_job(heap, job, &mut output[0..room]);
     end.bytes as u64 * 256 + end.number() as u64
 }
