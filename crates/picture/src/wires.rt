@@ -34,7 +34,8 @@ pub fn labels<B: PlacedBoard>(
     Ok(labels)
 }
 
-// Writes a letter at the points of a pad's wire on its layer, and at its landing, which on a field lies on layer 2.
+// Writes a letter at the points of a pad's wire on its layer, and at its landing, which on a field lies on layer 2. The points come in
+// memory that is lent, as every call has it, and are cut to those of the wire at once.
 fn label_wire<B: PlacedBoard>(
     board: &B,
     drawing: &[Record],

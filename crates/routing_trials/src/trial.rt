@@ -130,9 +130,10 @@ impl<'a, B: Board> Trial<'a, B> {
 
 // Only the answer to a clear depends on the calls alone.
 fn show_answer(heap: Global, kind: calls::Kind, number: u16) -> Result<String, AllocError> {
-    match kind {
-        calls::Kind::Clear => format!(in heap; "ok{number}"),
-        _ => format!(in heap; "ok"),
+    if kind == calls::Kind::Clear {
+        format!(in heap; "ok{number}")
+    } else {
+        format!(in heap; "ok")
     }
 }
 
