@@ -1,5 +1,5 @@
 // A map and the calls on it, as a text gives them.
-ghost use Rattle.std.specs.Prelude.{◌≡◌, true, false, Err, OnOk};
+ghost use Rattle.std.specs.Prelude.{◌≡◌, ◌⊎◌, true, false, Err, OnOk, IfErr};
 ghost use Rattle.picture.specs.Rows.{ReadsRow};
 ghost use Rattle.picture.specs.declared.sheet.SheetError.TheVariants.{Memory};
 
@@ -129,6 +129,7 @@ fn read_row(bytes: &mut Vec<u8>, row: &[u8], line: usize, columns: u16) -> Resul
     ensures ok { OnOk result (ReadsRow columns row.now bytes.old.items bytes.new.items true) }
     ensures err { result ≡ Err (SheetError.Row line columns) →
         ReadsRow columns row.now bytes.old.items bytes.new.items false }
+    ensures which { IfErr result (λ e. (e ≡ Memory) ⊎ (e ≡ SheetError.Row line columns)) }
 {
     if row.len() != columns as usize || !row.iter().all(|byte| byte.is_ascii_digit()) {
         return Err(SheetError::Row { line, columns });
