@@ -1,6 +1,6 @@
 -- A search from its first cell to its end.
-use Rattle.std.proofs.Common.{◌≡◌, ℕ, zero, suc, ◌+◌, ◌<◌, ◌≤◌, true, false, List, length, replicate, Some, None, Option, sym, ap, ◌∙◌, subst, ⊎_elim, not-suc-le-zero, arith}
-use Rattle.std.proofs.lemmas.List.{get_or-set_same, length-replicate}
+use Rattle.std.proofs.Common.{◌≡◌, ℕ, zero, suc, ◌+◌, ◌<◌, ◌≤◌, true, false, List, length, get_or, Some, None, sym, refl, ap, ◌∙◌, subst, ⊎_elim, not-suc-le-zero, arith}
+use Rattle.std.proofs.lemmas.List.{get_or-set_same}
 use Rattle.std.proofs.lemmas.Bool.{both_ways, cases_lt, cases_eq}
 use Rattle.boards.specs.Meaning.{Meaning, Bounded, outlets_of, outlet_at, landing_at}
 use Rattle.linkages.specs.Lists.{Mem}
@@ -13,13 +13,9 @@ use Rattle.drawings.specs.Lawful.{Lawful}
 use Rattle.drawings.proofs.Outlets.{outlet_mem, mem_outlet}
 use Rattle.drawings.proofs.Said.{none_not_some, some_same}
 use Rattle.rewiring.specs.Trails.{exit_of, Enters, back, onward as goes-onward}
-use Rattle.routing.specs.Searches.{Notes, notes, was_entered, cell_at, from_at, open_at, entered_also, visited, Spans, Searching, Waiting, Scanning, Came}
+use Rattle.routing.specs.Searches.{Notes, notes, was_entered, cell_at, from_at, open_at, entered_also, visited, Searching, Waiting, Scanning, Came}
 use Rattle.routing.proofs.Noting as note
 use Rattle.routing.proofs.Exits as exits
-
--- the exit of the cell at place k, as the notes have it
-abbrev pub exit_read : List Record → Notes → ℕ → Option ℕ
-exit_read d s k = exit_of (record_at d (cell_at s k)) (cell_at s k)
 
 module _ (m : Meaning) (B : Bounded m) (d : List Record) (W : Lawful m d) (p : ℕ) where
   -- what can be entered, by the exit and its outlets
@@ -37,28 +33,26 @@ module _ (m : Meaning) (B : Bounded m) (d : List Record) (W : Lawful m d) (p : �
 
   -- ---- the first cell
 
-  module _ (was s : Notes) (long : Spans m.cells was) (l : p < m.cells) (free : barred_at d p ≡ false)
-      (same : s ≡ entered_also (notes (replicate (length was.entered) 0) was.queue was.from 0) 0 p) where
-    begun : Searching m d p s
-    begun = subst (Searching m d p) (sym same)
-        (note.begin_searching m d p (replicate (length was.entered) 0) was.queue was.from (simp length-replicate (omega (arith, long.entered_long, W.one_each)))
-        (long.queue_long ∙ sym W.one_each) (long.from_long ∙ sym W.one_each) (note.zero_at (length was.entered)) (omega (arith, W.one_each)) free)
+  module _ (E Q F : List ℕ) (le : length E ≡ length d) (lq : length Q ≡ length d) (lf : length F ≡ length d)
+      (none : (c : ℕ) → get_or E c 0 ≡ 0) (l : p < length d) (free : barred_at d p ≡ false) where
+    first_cell : cell_at (entered_also (notes E Q F 0) 0 p) 0 ≡ p
+    first_cell = get_or-set_same Q 0 p 0 (omega arith)
 
-    pub begins : open_at m d p ≡ false → Waiting m d p s 0
+    pub begins : open_at m d p ≡ false → Waiting m d p (entered_also (notes E Q F 0) 0 p) 0
     begins shut = record {
-      searching = begun;
-      none_open = λ i h. let z : 0 ≡ i = omega (arith, ap (λ t. t.count) same) in
-          subst (λ v. open_at m d (cell_at s v) ≡ false) z (ap (open_at m d) begun.starts ∙ shut);
+      searching = note.begin_searching m d p E Q F le lq lf none l free;
+      none_open = λ i h. let z : 0 ≡ i = omega arith in
+          subst (λ v. open_at m d (cell_at (entered_also (notes E Q F 0) 0 p) v) ≡ false) z (ap (open_at m d) first_cell ∙ shut);
       closed = λ i h. absurd (not-suc-le-zero h);
       inside = omega arith;
     }
 
-    pub came_at_once : open_at m d p ≡ true → Came m d p s p
+    pub came_at_once : open_at m d p ≡ true → Came m d p (entered_also (notes E Q F 0) 0 p) p
     came_at_once o = record {
-      searching = begun;
+      searching = note.begin_searching m d p E Q F le lq lf none l free;
       last = 0;
-      count = ap (λ t. t.count) same;
-      lands = begun.starts;
+      count = refl;
+      lands = first_cell;
       lies_open = o;
       none_before = λ i h. absurd (not-suc-le-zero h);
     }
@@ -66,13 +60,11 @@ module _ (m : Meaning) (B : Bounded m) (d : List Record) (W : Lawful m d) (p : �
   -- ---- the outlets of an exit
 
   module _ (s : Notes) (k u : ℕ) where
-    pub scan_begins : (now : Notes) → now ≡ s → Waiting m d p s k → k < now.count → Some u ≡ exit_read d now k →
+    pub scan_begins : Waiting m d p s k → k < s.count → exit_of (record_at d (cell_at s k)) (cell_at s k) ≡ Some u →
         (u < length d) × Scanning m d p (visited d s k u) k u 0
-    scan_begins now same-notes w below read =
+    scan_begins w i e =
         let S = w.searching in
         let t = cell_at s k in
-        let i : k < s.count = subst (λ v. k < v.count) same-notes below in
-        let e : exit_read d s k ≡ Some u = ap (λ v. exit_read d v k) (sym same-notes) ∙ sym read in
         let l = exits.exit_inside m d W t u (note.cell_inside m d p s S k i) e in
         let same = note.visit_cell m d p s S k u k i in (
           l,
@@ -150,18 +142,17 @@ module _ (m : Meaning) (B : Bounded m) (d : List Record) (W : Lawful m d) (p : �
       inside = omega (arith, w.inside);
     }
 
-  pub wait_past : (s now : Notes) (k : ℕ) → now ≡ s → Waiting m d p s k → k < now.count → None ≡ exit_read d now k → Waiting m d p s (k + 1)
-  wait_past s now k same w below read =
-      let i : k < s.count = subst (λ v. k < v.count) same below in
-      let none : exit_read d s k ≡ None = ap (λ v. exit_read d v k) (sym same) ∙ sym read in record {
-        searching = w.searching;
-        none_open = w.none_open;
-        closed = λ i h t e. ⊎_elim
-            (λ (x : i < k). w.closed i x t e)
-            (λ (x : k ≤ i). let y : i ≡ k = omega arith in absurd (enters_none (cell_at s k) t none (subst (λ v. Enters m d (cell_at s v) t) y e)))
-            (cases_lt i k);
-        inside = omega arith;
-      }
+  pub wait_past : (s : Notes) (k : ℕ) → Waiting m d p s k → k < s.count → exit_of (record_at d (cell_at s k)) (cell_at s k) ≡ None →
+      Waiting m d p s (k + 1)
+  wait_past s k w i none = record {
+    searching = w.searching;
+    none_open = w.none_open;
+    closed = λ i h t e. ⊎_elim
+        (λ (x : i < k). w.closed i x t e)
+        (λ (x : k ≤ i). let y : i ≡ k = omega arith in absurd (enters_none (cell_at s k) t none (subst (λ v. Enters m d (cell_at s v) t) y e)))
+        (cases_lt i k);
+    inside = omega arith;
+  }
 
   -- ---- the end
 

@@ -1,4 +1,5 @@
 pub mod Searches
+pub mod Memories
 pub mod Courses
 pub mod Showing
 pub mod Outcomes

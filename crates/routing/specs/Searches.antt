@@ -25,12 +25,6 @@ pub record Alike (entered queue from : ℕ) : Type 0 where
   pub queue_alike : queue ≡ entered
   pub from_alike : from ≡ entered
 
--- each of the three has room for n cells
-pub record Spans (n : ℕ) (s : Notes) : Type 0 where
-  pub entered_long : length s.entered ≡ n
-  pub queue_long : length s.queue ≡ n
-  pub from_long : length s.from ≡ n
-
 abbrev pub was_entered : List ℕ → ℕ → Bool
 was_entered entered c = slice_index entered c == 1
 

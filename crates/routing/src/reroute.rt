@@ -7,7 +7,6 @@ ghost use Rattle.drawings.specs.Changes.{freed, written};
 ghost use Rattle.drawings.specs.Lawful.{Lawful};
 ghost use Rattle.routing.specs.Outcomes.{Rerouted};
 
-use crate::route::route;
 use crate::search::Visits;
 use boards::board::Board;
 use drawings::nets::{lay, list_net, take_up};
@@ -43,20 +42,57 @@ fn shut(drawing: &mut [Record], pad: u16, cell: u16, saved: &mut [u16]) -> usize
     count
 }
 
-// Bars a cell on the net of a wired pad, other than the pad, and finds another way for the pad, moving wires as need be.
-// Where there is no way it writes the fence to report memory and gives back its pads and cells by number; the drawing is as
-// before.
+impl Visits<'_> {
+    ghost use Rattle.routing.specs.Memories.{SameMemory};
+
+    // Bars a cell on the net of a wired pad, other than the pad, and finds another way for the pad, moving wires as need be.
+    // Where there is no way it writes the fence to report memory and gives back its pads and cells by number; the drawing is as
+    // before.
+    pub fn reroute<B: Board>(
+        &mut self,
+        board: &B,
+        drawing: &mut [Record],
+        spare: &mut [u16],
+        report: &mut [u16],
+        pad: u16,
+        cell: u16,
+    ) -> Result<u16, (u16, u16)>
+        requires lawful { Lawful (B.meaning board.now) drawing.old }
+        requires visits_long { length self.old.entered.now ≡ (B.meaning board.now).cells }
+        requires spare_long { length spare.old ≡ (B.meaning board.now).cells }
+        requires report_long { 2 * (B.meaning board.now).cells ≤ length report.old }
+        requires wired { first_at drawing.old pad ≡ true }
+        requires along { Mem cell (net drawing.old pad) }
+        requires unwired { first_at drawing.old cell ≡ false }
+        ensures rerouted { Rerouted (B.meaning board.now) drawing.old drawing.new cell report.old report.new result }
+        ensures long { length self.new.entered.now ≡ length self.old.entered.now }
+        ensures same { SameMemory self.old self.new }
+    {
+        let count = shut(drawing, pad, cell, spare);
+        let found = self.route(board, drawing, spare, report, pad);
+        if found.is_err() {
+            lay(drawing, &spare[..count]);
+        }
+        found
+    }
+}
+
+// The same with what the search remembers in memory of its own: each of the three parts has one number for each cell.
 pub fn reroute<B: Board>(
     board: &B,
     drawing: &mut [Record],
-    visits: &mut Visits<'_>,
+    entered: &mut [u16],
+    queue: &mut [u16],
+    from: &mut [u16],
     spare: &mut [u16],
     report: &mut [u16],
     pad: u16,
     cell: u16,
 ) -> Result<u16, (u16, u16)>
     requires lawful { Lawful (B.meaning board.now) drawing.old }
-    requires visits_long { length visits.old.entered ≡ (B.meaning board.now).cells }
+    requires entered_long { length entered.old ≡ (B.meaning board.now).cells }
+    requires queue_long { length queue.old ≡ (B.meaning board.now).cells }
+    requires from_long { length from.old ≡ (B.meaning board.now).cells }
     requires spare_long { length spare.old ≡ (B.meaning board.now).cells }
     requires report_long { 2 * (B.meaning board.now).cells ≤ length report.old }
     requires wired { first_at drawing.old pad ≡ true }
@@ -64,12 +100,8 @@ pub fn reroute<B: Board>(
     requires unwired { first_at drawing.old cell ≡ false }
     ensures { Rerouted (B.meaning board.now) drawing.old drawing.new cell report.old report.new result }
 {
-    let count = shut(drawing, pad, cell, spare);
-    let found = route(board, drawing, visits, spare, report, pad);
-    if found.is_err() {
-        lay(drawing, &spare[..count]);
-    }
-    found
+    let mut visits = Visits::new(entered, queue, from);
+    visits.reroute(board, drawing, spare, report, pad, cell)
 }
 
 // The same with work memory in one piece, four numbers for each cell, for a cell on any net.
@@ -89,5 +121,5 @@ pub fn reroute_within<B: Board>(
 {
     let pad = first_of(drawing, cell);
     let (mut visits, spare) = Visits::cut(work, board.cells() as usize);
-    reroute(board, drawing, &mut visits, spare, report, pad, cell)
+    visits.reroute(board, drawing, spare, report, pad, cell)
 }

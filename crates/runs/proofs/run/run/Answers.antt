@@ -16,7 +16,6 @@ loop-call-init g c = record {
 
 pub loop-call-preserved : goal.loop-call-preserved
 loop-call-preserved g c =
-    let old = c.args.calls.now in
     let calls = c.loop-call.calls in
     let made = c.perform.ensures in
     let here : c.loop-call.call-index < length calls = omega arith in
@@ -25,8 +24,8 @@ loop-call-preserved g c =
       history = _;
       upholds = upholds_more _ _ so_far.upholds _ _ _ _ _ _ _ so_far.stands _ _ made.performs;
       stands = refl;
-      told = told_more _ _ _ old calls _ c.call-item.result _ here made so_far.rest so_far.told;
-      rest = later _ _ _ old calls _ c.call-item.result _ here made so_far.rest;
+      told = told_more _ _ _ _ calls _ c.call-item.result _ here made so_far.rest so_far.told;
+      rest = later _ _ _ _ calls _ c.call-item.result _ here made so_far.rest;
     }
 
 pub returns : goal.returns

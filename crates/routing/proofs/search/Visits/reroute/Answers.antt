@@ -10,7 +10,7 @@ use Rattle.drawings.specs.Changes.{laid, written}
 use Rattle.drawings.specs.Lawful.{Lawful}
 use Rattle.routing.specs.Outcomes.{FenceShown, WiredAlso, Routed, Rerouted}
 use Rattle.routing.proofs.Barring.{pad_runs, shut_in, shut_lawful, q_unwired, q_unbarred, barred_also, fence_barred, relaid_whole}
-use Rattle.routing.proofs.reroute.reroute.Goals as goal
+use Rattle.routing.proofs.search.Visits.reroute.Goals as goal
 
 pub shut-count-requires-clause-runs : goal.shut-count-requires-clause-runs
 shut-count-requires-clause-runs g c =
@@ -57,14 +57,14 @@ module _ (m : Meaning) (d : List Record) (q x : ℕ) (W : Lawful m d) (first : f
     fence_barred m d q x W first along report report' k.0 k.1 (subst (λ D. FenceShown m (bars D) (q ∷ wired D) report report' k.0 k.1) same w.1),
   )
 
-pub returns-else-is_err : goal.returns-else-is_err
-returns-else-is_err g c =
+pub returns-else-is_err-clause-rerouted : goal.returns-else-is_err-clause-rerouted
+returns-else-is_err-clause-rerouted g c =
     found (g.B.Board.meaning c.args.board.now) c.args.drawing.now c.args.pad c.args.cell c.requires.lawful c.requires.wired c.requires.along
     c.shut-count.new.drawing c.route-found.new.drawing c.shut-count.ensures.bars c.args.report.now c.route-found.new.report
     c.route-found.result (sym c.if-is_err.ensures.value) c.route-found.ensures.routed
 
-pub returns-then-is_err : goal.returns-then-is_err
-returns-then-is_err g c =
+pub returns-then-is_err-clause-rerouted : goal.returns-then-is_err-clause-rerouted
+returns-then-is_err-clause-rerouted g c =
     let m = g.B.Board.meaning c.args.board.now in
     let d = c.args.drawing.now in
     let q = c.args.pad in
