@@ -1,5 +1,6 @@
 // Words: cutting a text at a byte, comparing words, numbers and names.
-ghost use Rattle.std.specs.Prelude.{◌≡◌, decimal, Decides};
+ghost use Rattle.std.specs.Prelude.{◌≡◌, ◌≤◌, ◌<◌, decimal, Decides, MatchOption};
+ghost use Rattle.std.specs.Char.{digit_value};
 ghost use Rattle.job_lines.specs.Words.{Cut, Name, NameByte, Number, Reads, StartsNumber};
 
 // The part of a text before the first `byte`, and the part after it; none if the byte stands nowhere.
@@ -32,14 +33,28 @@ fn is_name_byte(byte: u8) -> bool
 }
 
 // The number that a word writes: one to four digits with no leading zero except 0 itself.
+#[tactic(auto, using(crate::proofs::Digits::number_short, crate::proofs::Digits::number_starts, crate::proofs::Digits::number_digit, crate::proofs::Digits::digits_before))]
 pub fn read_number(word: &[u8]) -> Option<u16>
     ensures { Reads Number decimal word.now result }
 {
-    // Without these tests `parse` would take a sign, zeros in front and longer numbers too.
     if word.len() > 4 || !starts_number(word) {
         return None;
     }
-    str::from_utf8(word).ok()?.parse().ok()
+    let mut number = 0;
+    for byte in word {
+        number = number * 10 + digit_of(*byte)?;
+    }
+    Some(number)
+}
+
+// The value of a decimal digit; none for another byte.
+fn digit_of(byte: u8) -> Option<u16>
+    ensures { MatchOption result (10 ≤ digit_value byte) (λ digit. (digit < 10) × (digit ≡ digit_value byte)) }
+{
+    match byte {
+        b'0'..=b'9' => Some((byte - b'0') as u16),
+        _ => None,
+    }
 }
 
 // Whether a word begins with a digit, and with 0 only if it is 0.

@@ -1,22 +1,19 @@
-use Rattle.std.proofs.Common.{◌≡◌, length, refl, arith, ap, rules}
-use Rattle.std.specs.Str.{IsUtf8}
-use Rattle.std.proofs.lemmas.Bool.{false≢true}
-use Rattle.job_lines.proofs.Digits.{number_utf8, number_short, number_starts, number_read}
+use Rattle.std.proofs.Common.{◌≡◌, ◌<◌, get_or, refl, arith, take_all, rules}
+use Rattle.std.specs.Char.{digit_value}
+use Rattle.std.proofs.lemmas.Int.Digits.{digits_more, digits_value_more}
+use Rattle.job_lines.proofs.Digits.{number_read}
 use Rattle.job_lines.proofs.words.read_number.Goals as goal
-use Rattle.job_lines.proofs.words.read_number.Goals.{then-word-gt4-via-then-word-gt4, then-word-gt4-via-else-word-gt4+then-not-starts_number}
 
-pub returns-then-word-gt4 : goal.returns-then-word-gt4
-returns-then-word-gt4 c = λ n fit e. elim c.then-word-gt4.branch [
-  | then-word-gt4-via-then-word-gt4 w ↦ omega (arith, number_short n fit, ap length e)
-  | then-word-gt4-via-else-word-gt4+then-not-starts_number w ↦ false≢true (w.if-not-starts_number.ensures.1 (rw e (number_starts n fit)))
-]
-
-pub returns-in_err-ok : goal.returns-in_err-ok
-returns-in_err-ok c =
-    let bad : IsUtf8 c.args.word.now → ⊥ = search rules in
-    rw c.from_residual.ensures (λ n fit e. bad (rw e (number_utf8 n fit)))
+pub loop-byte-preserved : goal.loop-byte-preserved
+loop-byte-preserved c =
+    let word = c.args.word.now in
+    let i = c.loop-byte.byte-index in
+    let d : (c.in_ok-number.field-0 < 10) × (c.in_ok-number.field-0 ≡ digit_value (get_or word i 0)) = search rules in (
+      digits_more 10 word i c.loop-byte-test.true c.loop-byte.invariant.0 (omega (arith, d.0, d.1)),
+      omega (arith, digits_value_more 10 word i c.loop-byte-test.true, d.1, c.loop-byte.invariant.1),
+    )
 
 pub returns : goal.returns
 returns c =
-    let same : c.in_ok-ok.field-0.now ≡ c.args.word.now = search rules in
-    rw c.ok-2.ensures.value (number_read _ _ (omega arith) (c.if-not-starts_number.ensures.0 refl) (rw same at c.parse.ensures.value.0))
+    let all = rw (take_all c.loop-byte.byte-index c.args.word.now c.loop-byte-test.false) at c.loop-byte.invariant in
+    number_read _ _ (omega arith) (c.if-not-starts_number.ensures.0 refl) all.0 all.1
