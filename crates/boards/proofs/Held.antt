@@ -12,6 +12,7 @@ use Rattle.boards.specs.Maps.{pad_place, way, somes}
 use Rattle.boards.specs.MapMade.{Lies, LiesNowhere, map_meaning, map_places}
 use Rattle.boards.specs.Lists.{at_past}
 use Rattle.boards.specs.Meanings.{made_in, made_out}
+use Rattle.boards.specs.MapBoards.{landing_placed, landing_unplaced}
 use Rattle.boards.specs.GridsLemmas.{grid_placed, grid_unplaced, grid_finds, grid_found}
 
 -- two facts about one answer, by its cases
@@ -39,7 +40,7 @@ module _ (L : ℕ) (steps : List Step) (landing : (R C : ℕ) → List ℕ → P
   no_pad None e = ⊎_elim (made_in (λ c. false) 1 false c) (made_out (λ c. false) 1 false c) (cases_lt c 1)
 
   pub no_landing : (held : Option Map) → LiesNowhere L held c → landing_at (told held) c ≡ false
-  no_landing (Some m) e = made_out (λ c. landing m.rows m.columns (vec_items m.bytes) (place_of m.rows m.columns c)) (L * (m.rows * m.columns)) false c (grid_unplaced L m.rows m.columns c e)
+  no_landing (Some m) e = landing_unplaced L m.rows m.columns (vec_items m.bytes) steps (landing m.rows m.columns (vec_items m.bytes)) c e
   no_landing None e = ⊎_elim (made_in (λ c. false) 1 false c) (made_out (λ c. false) 1 false c) (cases_lt c 1)
 
   -- the answers about a cell are those about its place
@@ -60,10 +61,8 @@ module _ (L : ℕ) (steps : List Step) (landing : (R C : ℕ) → List ℕ → P
 
     pub landing_there : landing_at (told held) c ≡ landing m.rows m.columns (vec_items m.bytes) p
     landing_there =
-        let f = landing m.rows m.columns (vec_items m.bytes) in
-        let h = grid_placed L m.rows m.columns c p lies.1 in
         ap (λ o. landing_at (told o) c) lies.0
-        ∙ made_in (λ c. f (place_of m.rows m.columns c)) (L * (m.rows * m.columns)) false c h.0 ∙ ap f h.1
+        ∙ landing_placed L m.rows m.columns (vec_items m.bytes) steps (landing m.rows m.columns (vec_items m.bytes)) c p lies.1
 
 -- which cell lies at a place
 module _ (L : ℕ) (held : Option Map) (m : Map) (is : Some m ≡ held) (p : Place) where

@@ -15,7 +15,7 @@ use Rattle.boards.specs.Numbers.{number_of}
 use Rattle.boards.specs.Refusals.{NoneHolds, Answer}
 use Rattle.boards.specs.Grids.{Few}
 use Rattle.boards.specs.Maps.{MapFault, SidesAllowed, one_cell, origin}
-use Rattle.boards.specs.MapMade.{Made, over, map_meaning, map_places}
+use Rattle.boards.specs.MapMade.{Taken, Made, over, map_meaning, map_places}
 use Rattle.boards.specs.Fields.{field_steps}
 use Rattle.boards.specs.Escapes.{escape_steps}
 use Rattle.boards.specs.Lists.{when_some}
@@ -43,16 +43,27 @@ module _ (kind : MapKind) (R C : ℕ) (bytes : List ℕ) (good : NoneHolds (MapF
   pub accepted_length : length bytes ≡ R * C
   accepted_length = not_not_eq (length bytes) (R * C) (λ n. good 14 (inr (inl (refl, n))))
 
--- the board that holds what the map check lets through
+-- a board that holds the map that was taken
 module _ (kind : MapKind) (R C : ℕ) (bytes : List ℕ) (told : (R C : ℕ) → List ℕ → Meaning) (places : (R C : ℕ) → List ℕ → List Place) where
-  pub made_from : (r : Result Map BoardRefusal) → Answer number_of (MapFault kind R C bytes) (λ m. (m.rows ≡ R) × (m.columns ≡ C) × (vec_items m.bytes ≡ bytes)) r →
-      Made kind R C bytes (told R C bytes) (places R C bytes) (over told one_cell (result_ok r)) (over places (origin ∷ []) (result_ok r))
-  made_from (Ok m) t =
-      let r = t.1.0 in
-      let c = t.1.1 in
-      let b = t.1.2 in
+  pub made_from : (o : Option Map) → Taken kind R C bytes o →
+      Made kind R C bytes (told R C bytes) (places R C bytes) (over told one_cell o) (over places (origin ∷ []) o)
+  made_from (Some m) t =
+      let r = t.1 in
+      let c = t.2 in
+      let b = t.3 in
       record { accepted = λ _. (cc, cc); refused = λ k f. absurd (t.0 k f) }
-  made_from (Err e) t = record { accepted = λ g. absurd (g (number_of e) t.0); refused = λ k f. (refl, refl) }
+  made_from None t = record { accepted = λ g. absurd (g t.0 t.1); refused = λ k f. (refl, refl) }
+
+  -- what the map check lets through is taken
+  taken_of : (r : Result Map BoardRefusal) → Answer number_of (MapFault kind R C bytes) (λ m. (m.rows ≡ R) × (m.columns ≡ C) × (vec_items m.bytes ≡ bytes)) r →
+      Taken kind R C bytes (result_ok r)
+  taken_of (Ok m) t = (t.0, t.1.0, t.1.1, t.1.2)
+  taken_of (Err e) t = (number_of e, t.0)
+
+  -- the board that holds what the map check lets through
+  pub made_of_checked : (r : Result Map BoardRefusal) → Answer number_of (MapFault kind R C bytes) (λ m. (m.rows ≡ R) × (m.columns ≡ C) × (vec_items m.bytes ≡ bytes)) r →
+      Made kind R C bytes (told R C bytes) (places R C bytes) (over told one_cell (result_ok r)) (over places (origin ∷ []) (result_ok r))
+  made_of_checked r t = made_from (result_ok r) (taken_of r t)
 
 pub one_bounded : Bounded one_cell
 one_bounded = bounded_of 1 (λ c. []) (λ c. false) (λ c. false) (omega arith) (omega arith) (λ c _. omega arith) (λ c _ j h. let z : ⊥ = omega arith in absurd z)

@@ -8,14 +8,14 @@ use Rattle.std.proofs.lemmas.Bool.{and_parts, not-true}
 use Rattle.boards.specs.declared.place.Place.{Place}
 use Rattle.boards.specs.declared.place.Step.{Step}
 use Rattle.boards.specs.declared.place.Step.TheVariants.{North}
-use Rattle.boards.specs.Meaning.{Bounded, NoWayIn, outlet_at}
-use Rattle.boards.specs.Places.{Placed, InRange, Leads}
+use Rattle.boards.specs.Meaning.{Bounded, NoWayIn, outlet_at, landing_at}
+use Rattle.boards.specs.Places.{Placed, InRange, Leads, place_at}
 use Rattle.boards.specs.Grids.{OnGrid, place_of, cell_of, beside, grid_places}
 use Rattle.boards.specs.Maps.{SidesAllowed, byte_at, pad_place, passes, way_to, way, somes, map_board}
 use Rattle.boards.specs.Lists.{when_some}
 use Rattle.boards.specs.Somes.{length_somes, somes_from}
-use Rattle.boards.specs.Meanings.{made_in, made_outlet, bounded_of}
-use Rattle.boards.specs.GridsLemmas.{place_on_grid, cell_of_place, cell_below, place_of_cell, beside_leads, some_point, grid_placed}
+use Rattle.boards.specs.Meanings.{made_in, made_out, made_outlet, bounded_of}
+use Rattle.boards.specs.GridsLemmas.{place_on_grid, cell_of_place, cell_below, place_of_cell, beside_leads, some_point, grid_placed, grid_unplaced}
 
 -- where a way leads
 pub record Way (L R C : ℕ) (bytes : List ℕ) (p : Place) (d : ℕ) : Type 0 where
@@ -36,6 +36,16 @@ module _ (L R C : ℕ) (bytes : List ℕ) (p : Place) where
 
   pub way_gives : (s : Step) (d : ℕ) → way L R C bytes p s ≡ Some d → Way L R C bytes p d
   way_gives s d e = way_goes s (beside L R C p s) d refl e
+
+-- whether a landing lies where a cell is placed
+module _ (L R C : ℕ) (bytes : List ℕ) (steps : List Step) (landing : Place → Bool) (c : ℕ) where
+  pub landing_placed : (p : Place) → place_at (grid_places L R C) c ≡ Some p → landing_at (map_board L R C bytes steps landing) c ≡ landing p
+  landing_placed p e =
+      let h = grid_placed L R C c p e in
+      made_in (λ c. landing (place_of R C c)) (L * (R * C)) false c h.0 ∙ ap landing h.1
+
+  pub landing_unplaced : place_at (grid_places L R C) c ≡ None → landing_at (map_board L R C bytes steps landing) c ≡ false
+  landing_unplaced e = made_out (λ c. landing (place_of R C c)) (L * (R * C)) false c (grid_unplaced L R C c e)
 
 module _ (L R C : ℕ) (bytes : List ℕ) (steps : List Step) (landing : Place → Bool)
     (some_layer : 1 ≤ L) (few_layers : L ≤ 8) (few_cells : L * (R * C) ≤ 4096) (sides : SidesAllowed R C) (few_steps : length steps ≤ 8) where

@@ -10,6 +10,11 @@ use Rattle.boards.specs.Refusals.{NoneHolds}
 use Rattle.boards.specs.Grids.{grid_places}
 use Rattle.boards.specs.Maps.{MapFault, map_board, one_cell, origin}
 
+-- the map is taken as it is if the map check accepts it, and not at all if it refuses it
+abbrev pub Taken : MapKind → (R C : ℕ) → List ℕ → Option Map → Type 0
+Taken kind R C bytes (Some m) = NoneHolds (MapFault kind R C bytes) × (m.rows ≡ R) × (m.columns ≡ C) × (vec_items m.bytes ≡ bytes)
+Taken kind R C bytes None = (k : ℕ) × MapFault kind R C bytes k
+
 -- what is told of the map that a board holds, or else of the one-cell board
 abbrev pub over : {X : Type 0} → (told : (R C : ℕ) → List ℕ → X) → X → Option Map → X
 over told one (Some m) = told m.rows m.columns (vec_items m.bytes)

@@ -1,6 +1,8 @@
 -- The numbers that are there in a list of options: how many come before a place, and which one comes after so many.
 use Rattle.std.specs.Prelude.{◌≡◌, ℕ, zero, suc, ◌+◌, ◌<◌, ◌≤◌, Bool, true, false, cond, List, [], ◌∷◌, map, length, get_or, take, Some, None, filter, Option, slice_index, slice_index_or, refl}
-use Rattle.std.proofs.Common.{sym, ap, ◌∙◌, arith, add-one}
+use Rattle.std.proofs.Common.{sym, ap, ◌∙◌, ⊎_elim, arith, add-one}
+use Rattle.std.proofs.lemmas.List.{get_or_past}
+use Rattle.std.proofs.lemmas.Bool.{cases_lt}
 use Rattle.boards.specs.Meaning.{at, when}
 use Rattle.boards.specs.Maps.{somes}
 use Rattle.boards.specs.Lists.{at_in, at_some}
@@ -27,6 +29,10 @@ somes_from (None ∷ xs) j h = later (somes_from xs j h)
 
 no_some : {X : Type 0} {x : ℕ} → None ≡ Some x → X
 no_some e = let z : ◌≡◌ {A = ℕ} 0 1 = cc in let n : ⊥ = omega arith in absurd n
+
+-- what is there stands below the end
+pub some_below : (xs : List (Option ℕ)) (i : ℕ) {x : ℕ} → slice_index_or xs i None ≡ Some x → i < length xs
+some_below xs i e = ⊎_elim (λ h. h) (λ h. no_some (sym (get_or_past xs i None h) ∙ e)) (cases_lt i (length xs))
 
 -- one more that is there, and one that is not
 more : (xs : List (Option ℕ)) (i x : ℕ) → slice_index_or xs i None ≡ Some x → length (somes (take (suc i) xs)) ≡ length (somes (take i xs)) + 1
