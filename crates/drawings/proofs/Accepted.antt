@@ -4,7 +4,7 @@ use Rattle.std.specs.List.{range_with_len}
 use Rattle.std.specs.Option.{ok_or}
 use Rattle.std.proofs.lemmas.Bool.{both_ways, false≢true}
 use Rattle.std.proofs.lemmas.Option.{none-some}
-use Rattle.boards.specs.Meaning.{Meaning, landing_at}
+use Rattle.boards.specs.Meaning.{Meaning, pad_at, landing_at}
 use Rattle.boards.specs.Refusals.{First, NoneHolds, Answer}
 use Rattle.records.specs.declared.record.Record.{Record}
 use Rattle.records.specs.declared.record.Record.TheVariants.{Free}
@@ -68,12 +68,18 @@ clear_first m d c n long h = first_past (NewRefused m d) (λ k. ((k ≡ 4) × Is
     before k l (inl q) (inr (inr p)) = omega (arith, l, p.0, q.0)
     before k l (inr q) (inr (inr p)) = omega (arith, l, p.0, q.0)
 
-module _ (m : Meaning) (d : List Record) (c : ℕ) where
-  -- lift
-  lifted : (e : List Record) (landing : ℕ) → IsWiredPad m d c → TakenUp d e c (Some landing) → Lifted m d e c landing
-  lifted e landing w t =
-      let W = w.lawful in
-      let p = w.wired in
+-- ---- a lawful drawing and a wired pad
+
+module _ (m : Meaning) (d : List Record) (c : ℕ) (W : Lawful m d) where
+  pub may_lift : c < m.cells → pad_at m c ≡ true → first_at d c ≡ true → NoneHolds (LiftRefused m d c)
+  may_lift inside pad wired k (inl h) = h.1 W.one_each
+  may_lift inside pad wired k (inr (inl h)) = h.1 W
+  may_lift inside pad wired k (inr (inr (inl h))) = let l = h.1 in omega arith
+  may_lift inside pad wired k (inr (inr (inr (inl h)))) = both_ways (pad_at m c) h.1 pad
+  may_lift inside pad wired k (inr (inr (inr (inr h)))) = both_ways (first_at d c) h.1 wired
+
+  pub lifted : (e : List Record) (landing : ℕ) → first_at d c ≡ true → TakenUp d e c (Some landing) → Lifted m d e c landing
+  lifted e landing p t =
       let F = frees (net d c) d e t.2 in
       record {
         frees = F;
@@ -86,10 +92,35 @@ module _ (m : Meaning) (d : List Record) (c : ℕ) where
         same_nets = lift_nets m d e c W p F;
       }
 
+  pub may_show : (report : List ℕ) → 2 * m.cells ≤ length report → c < m.cells → pad_at m c ≡ true → first_at d c ≡ true →
+      NoneHolds (ShowRefused m d report c)
+  may_show report room inside pad wired k (inl h) = h.1 W.one_each
+  may_show report room inside pad wired k (inr (inl h)) = let l = h.1 in omega arith
+  may_show report room inside pad wired k (inr (inr (inl h))) = h.1 W
+  may_show report room inside pad wired k (inr (inr (inr (inl h)))) = let l = h.1 in omega arith
+  may_show report room inside pad wired k (inr (inr (inr (inr (inl h))))) = both_ways (pad_at m c) h.1 pad
+  may_show report room inside pad wired k (inr (inr (inr (inr (inr h))))) = both_ways (first_at d c) h.1 wired
+
+  pub shown : (before after : List ℕ) (n : ℕ) → pad_at m c ≡ true → Listed d c before after (Some n) → Shown m d before after c n
+  shown before after n pad l = record {
+    count = l.1;
+    writes = l.3;
+    from_pad = pad;
+    to_landing = (W.local (last_of c (net d c))).last_is_landing (run_last_at c l.0);
+  }
+
+-- ---- what the calls answer
+
+module _ (m : Meaning) (d : List Record) (c : ℕ) where
+  -- lift
+  pub taken : (e : List Record) (r : Option ℕ) → IsWiredPad m d c → TakenUp d e c r → r ≡ None → ⊥
+  taken e None w t n = t.0 (net d c) (net_runs m d w.lawful.local c w.wired)
+  taken e (Some landing) w t n = none-some landing (sym n)
+
   pub lift_answer : (e : List Record) (r : Option ℕ) → length d ≡ m.cells → NoneHolds (PadRefused m d c) → IsWiredPad m d c → TakenUp d e c r →
       Answer number_of (LiftRefused m d c) (Lifted m d e c) (ok_or r NotWired)
-  lift_answer e None long none w t = absurd (t.0 (net d c) (net_runs m d w.lawful.local c w.wired))
-  lift_answer e (Some landing) long none w t = (none_past (NewRefused m d) (PadRefused m d c) (λ k p. p.1 long) none, lifted e landing w t)
+  lift_answer e None long none w t = absurd (taken e None w t refl)
+  lift_answer e (Some landing) long none w t = (none_past (NewRefused m d) (PadRefused m d c) (λ k p. p.1 long) none, lifted m d c w.lawful e landing w.wired t)
 
   -- clear
   pub may_clear : Lawful m d → c < m.cells → barred_at d c ≡ true → NoneHolds (ClearRefused m d c)
@@ -112,8 +143,8 @@ module _ (m : Meaning) (d : List Record) (c : ℕ) where
       }
 
   -- show
-  pub may_show : (report : List ℕ) → 2 * m.cells ≤ length report → length d ≡ m.cells → NoneHolds (PadRefused m d c) → NoneHolds (ShowRefused m d report c)
-  may_show report room long none =
+  pub show_allowed : (report : List ℕ) → 2 * m.cells ≤ length report → length d ≡ m.cells → NoneHolds (PadRefused m d c) → NoneHolds (ShowRefused m d report c)
+  show_allowed report room long none =
       none_past (NewRefused m d) (λ k. ((k ≡ 3) × IsShortReport m report) ⊎ PadRefused m d c k) (λ k p. p.1 long)
       (none_past (λ k. (k ≡ 3) × IsShortReport m report) (PadRefused m d c) (λ k p. let l = p.1 in omega arith) none)
 
@@ -122,12 +153,5 @@ module _ (m : Meaning) (d : List Record) (c : ℕ) where
       let r = net_runs m d w.lawful.local c w.wired in l.0 (net d c) r (omega (arith, run_short r, w.lawful.one_each))
   listed before after (Some n) w room l e = none-some n (sym e)
 
-  pub shown : (before after : List ℕ) (r : Option ℕ) (n : ℕ) → IsWiredPad m d c → Listed d c before after r → r ≡ Some n → Shown m d before after c n
-  shown before after r n w h e =
-      let l : Listed d c before after (Some n) = subst (Listed d c before after) e h in
-      record {
-        count = l.1;
-        writes = l.3;
-        from_pad = w.pad;
-        to_landing = (w.lawful.local (last_of c (net d c))).last_is_landing (run_last_at c l.0);
-      }
+  pub show_told : (before after : List ℕ) (r : Option ℕ) (n : ℕ) → IsWiredPad m d c → Listed d c before after r → r ≡ Some n → Shown m d before after c n
+  show_told before after r n w h e = shown m d c w.lawful before after n w.pad (subst (Listed d c before after) e h)

@@ -1,13 +1,13 @@
 -- Records after cells are freed or laid.
-use Rattle.std.proofs.Common.{◌≡◌, ℕ, List, [], ◌∷◌, length, set, Some, sym, refl, ap, ◌∙◌, subst, ⊎_elim}
-use Rattle.std.proofs.lemmas.List.{get_or_past, get_or-set_same, get_or-set_other, length-set}
+use Rattle.std.proofs.Common.{◌≡◌, ℕ, ◌<◌, ◌≤◌, List, [], ◌∷◌, length, get_or, drop, set, Some, None, sym, refl, ap, ◌∙◌, subst, ⊎_elim}
+use Rattle.std.proofs.lemmas.List.{get_or_past, get_or-set_same, get_or-set_other, length-set, drop_more, drop_all}
 use Rattle.std.proofs.lemmas.Bool.{cases_lt, cases_eq}
 use Rattle.linkages.specs.Lists.{Mem, here, there, Distinct}
 use Rattle.records.specs.declared.record.Record.{Record}
 use Rattle.records.specs.declared.record.Record.TheVariants.{Free}
 use Rattle.records.specs.Records.{after_of, is_last, record_at}
 use Rattle.drawings.specs.Nets.{after_at, net, last_of, Runs, ends, goes}
-use Rattle.drawings.specs.Changes.{freed}
+use Rattle.drawings.specs.Changes.{freed, head_of}
 use Rattle.linkages.proofs.Members.{mem_none, mem_at}
 use Rattle.drawings.proofs.Follow.{run_distinct, net_run, net_here, run_step}
 
@@ -62,3 +62,10 @@ free_step d e c t same r q =
 pub run_last : {d : List Record} {c : ℕ} {xs : List ℕ} (a b : ℕ) → Runs d c xs → last_of a xs ≡ last_of b xs
 run_last a b (ends e) = refl
 run_last a b (goes e r) = refl
+
+-- the first cell of what is left of a list
+pub head_drop : (xs : List ℕ) (j d : ℕ) → j < length xs → head_of (drop j xs) ≡ Some (get_or xs j d)
+head_drop xs j d h = ap head_of (drop_more xs j d h)
+
+pub head_dropped : (xs : List ℕ) (j : ℕ) → length xs ≤ j → head_of (drop j xs) ≡ None
+head_dropped xs j h = ap head_of (drop_all j xs h)

@@ -21,6 +21,11 @@ distinct_append (x ∷ xs) ys d e apart = (
   distinct_append xs ys d.1 e (λ c h. apart c (there h)),
 )
 
+-- tests that agree on a list keep the same of it
+pub same_kept : {X : Type 0} (p q : X → Bool) (xs : List X) → ((x : X) → Mem x xs → p x ≡ q x) → filter p xs ≡ filter q xs
+same_kept p q [] f = refl
+same_kept p q (x ∷ xs) f = rw (f x (here refl), same_kept p q xs (λ y m. f y (there m)))
+
 pub kept_twice : {X : Type 0} (p q : X → Bool) (xs : List X) → filter p (filter q xs) ≡ filter (λ x. q x && p x) xs
 kept_twice p q [] = refl
 kept_twice p q (x ∷ xs) = go (q x) (kept_twice p q xs)

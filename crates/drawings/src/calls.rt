@@ -32,7 +32,8 @@ pub fn lift<B: Board>(board: &B, drawing: &mut [Record], cell: u16) -> Result<u1
 {
     check_size(board, drawing)?;
     check_wired_pad(board, drawing, cell)?;
-    take_up(drawing, cell).ok_or(Refusal::NotWired)
+    let landing = take_up(drawing, cell).ok_or(Refusal::NotWired)?;
+    Ok(landing)
 }
 
 // The number of bars.

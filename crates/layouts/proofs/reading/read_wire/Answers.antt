@@ -2,7 +2,7 @@ use Rattle.std.proofs.Common.{Some, length, rules, arith}
 use Rattle.std.proofs.lemmas.Result.{err_from_is_err_and}
 use Rattle.drawings.specs.Nets.{net}
 use Rattle.drawings.proofs.Follow.{onward_short}
-use Rattle.layouts.proofs.Readers.{points_few, read_first, may_read}
+use Rattle.layouts.proofs.Readers.{wire_short, read_first, read_allowed}
 use Rattle.layouts.proofs.reading.read_wire.Goals as goal
 
 pub returns-in_err-check_wired_pad-clause-answer :
@@ -19,7 +19,7 @@ pub overflow_cast-result : goal.overflow_cast-result
 overflow_cast-result g c =
     omega (
       arith,
-      points_few c.net_layer-layer.result (g.B.PlacedBoard.places c.args.board.now) (net c.args.drawing.now c.args.pad),
+      wire_short c.net_layer-layer.result (g.B.PlacedBoard.places c.args.board.now) (net c.args.drawing.now c.args.pad),
       onward_short c.args.drawing.now (Some c.args.pad) (length c.args.drawing.now),
       c.list_points-count.ensures.count,
       c.in_ok-check_size.ensures.1,
@@ -28,6 +28,6 @@ overflow_cast-result g c =
 
 pub returns-clause-answer : goal.returns-clause-answer
 returns-clause-answer g c = (
-  may_read (g.B.Board.meaning c.args.board.now) c.args.drawing.now c.args.points.now c.args.pad c.in_ok-check_size.ensures.1 (omega arith) c.in_ok-check_wired_pad.ensures.0,
+  read_allowed (g.B.Board.meaning c.args.board.now) c.args.drawing.now c.args.points.now c.args.pad c.in_ok-check_size.ensures.1 (omega arith) c.in_ok-check_wired_pad.ensures.0,
   search rules,
 )
