@@ -1,5 +1,5 @@
 -- Bits of a mask: setting one, and counting them all.
-use Rattle.std.proofs.Common.{◌≡◌, ℕ, zero, suc, ◌+◌, ◌*◌, ◌/◌, ◌%◌, ◌^◌, ◌<◌, ◌≤◌, Bool, false, cond, ◌||◌, eqb, List, [], ◌∷◌, length, get_or, set, replicate, sum_by, count_by, sym, refl, ap, ◌∙◌, ⊎_elim, add-zero, add_assoc, pow-suc, zero-add, div-one, arith, get_or-set_other, get_or-set_same}
+use Rattle.std.proofs.Common.{◌≡◌, ℕ, zero, suc, ◌+◌, ◌*◌, ◌/◌, ◌%◌, ◌^◌, ◌<◌, ◌≤◌, Bool, false, cond, ◌||◌, eqb, List, [], ◌∷◌, length, get_or, take, set, replicate, sum_by, count_by, sym, refl, ap, ◌∙◌, ⊎_elim, add-zero, add_assoc, pow-suc, zero-add, div-one, arith, get_or-set_other, get_or-set_same}
 use native.Mathlib.Nat.{zero-div}
 use lib.Bits.{bit_or}
 use mir.Syntax.{w64}
@@ -10,7 +10,7 @@ use lib.Count.{ones, ones_step, ones-ones, ones-le}
 use lib.ListN.{get_or-replicate}
 use Rattle.std.specs.List.{range_with_len}
 use Rattle.std.proofs.lemmas.Nat.{shr-shr, div-add-mod', mod_below, div_below}
-use Rattle.std.proofs.lemmas.List.{get_or_past}
+use Rattle.std.proofs.lemmas.List.{length-take, get_or_past}
 use Rattle.std.proofs.lemmas.List.Sums.{sum_by-cons}
 use Rattle.std.proofs.lemmas.Bool.{cases_lt, cases_eq, eq-eqb, ne_eqb, or_left}
 use Rattle.boards.specs.KeepOuts.{is_closed, closed_count}
@@ -135,3 +135,7 @@ ones_closed mask l f =
 pub few_ones : (mask : List ℕ) → ((k : ℕ) → k < length mask → get_or mask k 0 < 2 ^ 64) → sum_by ones mask ≤ 64 * length mask
 few_ones [] f = omega arith
 few_ones (x ∷ ws) f = omega (arith, sum_by-cons ones x ws, ones-le 64 x (f 0 (omega arith)), few_ones ws (λ k h. f (suc k) (omega arith)))
+
+-- a part from the front of a mask is no longer than it
+pub part_short : (n : ℕ) (mask : List ℕ) → length mask ≡ 64 → length (take n mask) ≤ 64
+part_short n mask l = omega (arith, length-take n mask, l)

@@ -1,5 +1,6 @@
 // A keep-out: any board with some of its cells closed.
-ghost use Rattle.std.specs.Prelude.{◌≡◌, ℕ, ◌<◌, false, length, replicate};
+ghost use Rattle.std.specs.Prelude.{◌≡◌, ℕ, ◌<◌, ◌≤◌, false, length, replicate, sum_by};
+ghost use lib.Count.{ones};
 ghost use Rattle.boards.specs.Meaning.{outlet_at};
 ghost use Rattle.boards.specs.Numbers.{number_of};
 ghost use Rattle.boards.specs.Refusals.{Answer};
@@ -57,7 +58,7 @@ impl<B: Board> KeepOut<B> {
         ensures { result ≡ closed_count self.now.mask }
     {
         let words = self.mask.as_slice();
-        words.iter().map(|word| word.count_ones()).sum()
+        count_bits(&words[..64])
     }
 
     // Whether the cell is closed.
@@ -77,6 +78,14 @@ impl<B: Board> KeepOut<B> {
             .outlet(cell, i)
             .filter(|next| !self.is_closed(*next))
     }
+}
+
+// How many bits are set in the words of a mask, or of a part of it.
+fn count_bits(words: &[u64]) -> u32
+    requires { length words.now ≤ 64 }
+    ensures { result ≡ sum_by ones words.now }
+{
+    words.iter().map(|word| word.count_ones()).sum()
 }
 
 impl<B: Board> Board for KeepOut<B> {
