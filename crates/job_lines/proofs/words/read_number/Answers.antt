@@ -1,7 +1,7 @@
 use Rattle.std.proofs.Common.{◌≡◌, ◌<◌, get_or, refl, arith, take_all, rules}
 use Rattle.std.specs.Char.{digit_value}
 use Rattle.std.proofs.lemmas.Int.Digits.{digits_more, digits_value_more}
-use Rattle.job_lines.proofs.Digits.{number_read}
+use Rattle.job_lines.proofs.Digits.{digits_written}
 use Rattle.job_lines.proofs.words.read_number.Goals as goal
 
 pub loop-byte-preserved : goal.loop-byte-preserved
@@ -16,4 +16,4 @@ loop-byte-preserved c =
 pub returns : goal.returns
 returns c =
     let all = rw (take_all c.loop-byte.byte-index c.args.word.now c.loop-byte-test.false) at c.loop-byte.invariant in
-    number_read _ _ (omega arith) (c.if-not-starts_number.ensures.0 refl) all.0 all.1
+    digits_written _ _ (omega arith) (c.if-not-starts_number.ensures.0 refl) all.0 all.1
